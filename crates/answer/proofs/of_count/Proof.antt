@@ -1,0 +1,28 @@
+-- `answer::of_count` meets its contract, case by case. Assumes nothing.
+use lib.Dec.{lit<}
+use borrow.Author.Needs.{needs}
+use mathlib.Core.Path.{_∙_, sym, ap}
+use Rattle.answer.specs.Answers.{SmallCount}
+use Rattle.answer.proofs.of_count.Statement.{statement}
+use Rattle.answer.proofs.of_count.Tie as tie
+
+enum-known-c : tie.Need-enum-known-c
+enum-known-c c = search needs
+
+done-requires : tie.Need-done-requires
+done-requires c κs = (rw (c .before .c .given .1) at (c .before .before .before .pre), lit< tt)
+
+enum-known-c-2 : tie.Need-enum-known-c-2
+enum-known-c-2 c = search needs
+
+refused-requires : tie.Need-refused-requires
+refused-requires c κs = rw (c .before .c2 .given .1) at (c .before .before .before .pre)
+
+returns : tie.Need-returns
+returns c = rw (c .before .before .c .given .1) (c .done .ensures)
+
+returns-2 : tie.Need-returns-2
+returns-2 c = rw (c .before .before .c2 .given .1) (c .refused .ensures)
+
+pub of-count-spec : {M : Type 1} → statement M
+of-count-spec = tie.close (tie.spec enum-known-c done-requires enum-known-c-2 refused-requires returns returns-2)
