@@ -1,0 +1,71 @@
+-- Laws of tests joined by "and", "or" and "not".
+-- Assumes nothing.
+use mathlib.Core.Path.{_≡_, refl, sym, _∙_}
+use mathlib.Core.Bool.{Bool, true, false, not, _&&_, _||_}
+use mathlib.Core.Logic.{_⊎_, inl, inr}
+
+pub bool-cases : (b : Bool) → (b ≡ true) ⊎ (b ≡ false)
+bool-cases true = inl refl
+bool-cases false = inr refl
+
+pub true-false : {b : Bool} → b ≡ true → b ≡ false → ⊥
+true-false p q = let z : _≡_ {A = Bool} true false = sym p ∙ q in absurd-of z
+  where
+    is-true : Bool → Type 0
+    is-true true = Unit {0}
+    is-true false = ⊥
+
+    absurd-of : true ≡ false → ⊥
+    absurd-of z = mathlib.Core.Path.subst is-true z tt
+
+-- two tests that hold together are equal
+pub same-tests : (a b : Bool) → (a ≡ true → b ≡ true) → (b ≡ true → a ≡ true) → a ≡ b
+same-tests true b f g = sym (f refl)
+same-tests false true f g = g refl
+same-tests false false f g = refl
+
+pub and-true : (a b : Bool) → a ≡ true → b ≡ true → (a && b) ≡ true
+and-true a b p q = rw (p, q)
+
+pub and-left : (a b : Bool) → (a && b) ≡ true → a ≡ true
+and-left true b p = refl
+and-left false b p = p
+
+pub and-right : (a b : Bool) → (a && b) ≡ true → b ≡ true
+and-right true b p = p
+and-right false true p = refl
+and-right false false p = p
+
+pub and-false-left : (a b : Bool) → a ≡ false → (a && b) ≡ false
+and-false-left a b p = rw p
+
+pub and-false-right : (a b : Bool) → b ≡ false → (a && b) ≡ false
+and-false-right true b p = p
+and-false-right false b p = refl
+
+pub or-cases : (a b : Bool) → (a || b) ≡ true → (a ≡ true) ⊎ (b ≡ true)
+or-cases true b p = inl refl
+or-cases false b p = inr p
+
+pub or-true-left : (a b : Bool) → a ≡ true → (a || b) ≡ true
+or-true-left a b p = rw p
+
+pub or-true-right : (a b : Bool) → b ≡ true → (a || b) ≡ true
+or-true-right true b p = refl
+or-true-right false b p = p
+
+pub or-false-left : (a b : Bool) → (a || b) ≡ false → a ≡ false
+or-false-left true b p = p
+or-false-left false b p = refl
+
+pub or-false-right : (a b : Bool) → (a || b) ≡ false → b ≡ false
+or-false-right true true p = p
+or-false-right true false p = refl
+or-false-right false b p = p
+
+pub not-flip : (a : Bool) → not a ≡ true → a ≡ false
+not-flip true p = sym p
+not-flip false p = refl
+
+pub not-of-false : (a : Bool) → a ≡ false → not a ≡ true
+not-of-false a p = rw p

@@ -1,0 +1,5 @@
+pub mod Bools
+pub mod Scans
+pub mod Scanned
+pub mod Grown
+pub mod Entries
