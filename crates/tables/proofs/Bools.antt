@@ -2,7 +2,10 @@
 -- Assumes nothing.
 use mathlib.Core.Path.{_≡_, refl, sym, _∙_}
 use mathlib.Core.Bool.{Bool, true, false, not, _&&_, _||_}
-use mathlib.Core.Logic.{_⊎_, inl, inr}
+use mathlib.Core.Logic.{_⊎_, inl, inr, _↔_}
+use Prim.Native.Nat.{ℕ, _≤_, _<_}
+use lib.Dec.{leb, ltb, eqb}
+use borrow.Author.Tests.{leb-true, le-leb, ltb-true, lt-ltb, eqb-true, eq-eqb}
 
 pub bool-cases : (b : Bool) → (b ≡ true) ⊎ (b ≡ false)
 bool-cases true = inl refl
@@ -69,3 +72,26 @@ not-flip false p = refl
 
 pub not-of-false : (a : Bool) → a ≡ false → not a ≡ true
 not-of-false a p = rw p
+
+-- a test in a chain, as the fact that it stands for: `simp tests at p` takes a chain of tests apart
+pub and-iff : (a b : Bool) → ((a && b) ≡ true) ↔ ((a ≡ true) × (b ≡ true))
+and-iff a b = (λ p. (and-left a b p, and-right a b p), λ q. and-true a b (q .0) (q .1))
+
+pub leb-iff : (a b : ℕ) → (leb a b ≡ true) ↔ (a ≤ b)
+leb-iff a b = (leb-true a b, le-leb a b)
+
+pub ltb-iff : (a b : ℕ) → (ltb a b ≡ true) ↔ (a < b)
+ltb-iff a b = (ltb-true a b, lt-ltb a b)
+
+pub eqb-iff : (a b : ℕ) → (eqb a b ≡ true) ↔ (a ≡ b)
+eqb-iff a b = (eqb-true a b, eq-eqb a b)
+
+pub ruleset tests = (and-iff, leb-iff, ltb-iff, eqb-iff)
+
+pub and-yes : (a : Bool) → (a && true) ≡ a
+and-yes true = refl
+and-yes false = refl
+
+pub and-no : (a : Bool) → (a && false) ≡ false
+and-no true = refl
+and-no false = refl

@@ -39,6 +39,9 @@ module _ (f : ℕ → Bool) where
   all-of zero h = refl
   all-of (suc n) h = and-true (allBelow f n) (f n) (all-of n (λ j l. h j (omega arith))) (h n (omega arith))
 
+  pub all-fails : (n j : ℕ) → j < n → f j ≡ false → allBelow f n ≡ false
+  all-fails n j h p = ⊎-elim (λ a. absurd (true-false (all-at n a j h) p)) (λ b. b) (bool-cases (allBelow f n))
+
   pub any-at : (n : ℕ) → anyBelow f n ≡ true → (j : ℕ) × (j < n) × (f j ≡ true)
   unfolding anyBelow
   any-at zero p = absurd (true-false p refl)
