@@ -17,8 +17,17 @@ headerWord s i = num (getD s i (pos 0))
 unfoldable pub headerOf : List ℤ → Header
 headerOf s =
     record {
-      personas = headerWord s 1; facts = headerWord s 2; nodes = headerWord s 3; rules = headerWord s 4; entities = headerWord s 5;
-      transitions = headerWord s 6; operations = headerWord s 7; effects = headerWord s 8; flows = headerWord s 9; steps = headerWord s 10; routes = headerWord s 11
+      personas = headerWord s 1;
+      facts = headerWord s 2;
+      nodes = headerWord s 3;
+      rules = headerWord s 4;
+      entities = headerWord s 5;
+      transitions = headerWord s 6;
+      operations = headerWord s 7;
+      effects = headerWord s 8;
+      flows = headerWord s 9;
+      steps = headerWord s 10;
+      routes = headerWord s 11;
     }
 
 -- no count is above its largest value

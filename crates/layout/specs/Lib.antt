@@ -1,3 +1,4 @@
 pub mod Header
 pub mod Groups
+pub mod Tables
 pub mod Sized

@@ -7,8 +7,8 @@ ghost use Rattle.words.specs.Record.{number};
 ghost use Rattle.layout.specs.Header.{headerOf, inLimits, goodFrame, goodHeader, records, firstRule, firstEntity, firstTransition, firstOperation, firstEffect, firstFlow, firstStep, firstRoute};
 ghost use Rattle.layout.specs.Groups.{goodGroup, goodGroups};
 ghost use Rattle.layout.specs.Sized.{Limits, Sized, Owners};
-
-use words::{number, number_at};
+use words::number;
+use words::number_at;
 
 // The counts of a sheet, in the header's order.
 pub struct Header {
@@ -27,15 +27,25 @@ pub struct Header {
 
 impl Header {
     pub const PERSONAS: usize = 24;
+
     pub const FACTS: usize = 128;
+
     pub const NODES: usize = 1024;
+
     pub const RULES: usize = 128;
+
     pub const ENTITIES: usize = 32;
+
     pub const TRANSITIONS: usize = 512;
+
     pub const OPERATIONS: usize = 128;
+
     pub const EFFECTS: usize = 512;
+
     pub const FLOWS: usize = 32;
+
     pub const STEPS: usize = 256;
+
     pub const ROUTES: usize = 1024;
 
     pub fn read(s: &[i64]) -> Header

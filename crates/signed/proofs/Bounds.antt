@@ -79,13 +79,7 @@ pub small-in : {l x h : ℤ} → Small l → Small h → In l x h → Small x
 small-in {x = pos n} s t i = omega arith
 small-in {x = negsuc n} s t i = omega arith
 
--- ---- `signs`, and the tests of bounds as rules
-
-pub read-low : (l x h : ℤ) → within l x h ≡ true → P l + N x ≤ P x + N l
-read-low l x h e = in-true l x h e .low .le
-
-pub read-high : (l x h : ℤ) → within l x h ≡ true → P x + N h ≤ P h + N x
-read-high l x h e = in-true l x h e .high .le
+-- ---- `signs`, and `bounded` as rules. A range goes into the list as a record: `omega (arith, ranges, in-true l x h e)`
 
 pub read-small : (z : ℤ) → bounded z ≡ true → P z + N z ≤ big
 read-small z e = small-true z e .small
@@ -93,4 +87,4 @@ read-small z e = small-true z e .small
 pub show-small : (z : ℤ) → P z + N z ≤ big → bounded z ≡ true
 show-small z h = true-small z (record { small = h })
 
-pub ruleset ranges = (signs, read-low, read-high, read-small, show-small)
+pub ruleset ranges = (signs, read-small, show-small)

@@ -4,3 +4,4 @@ pub mod Order
 pub mod Bounds
 pub mod Fit
 pub mod Numbers
+pub mod Pairs

@@ -1,15 +1,15 @@
 -- The order of the integers: its laws, the smaller and the larger of two, and what sums, differences and products keep of it.
 -- Assumes nothing.
-use mathlib.Core.Path.{_≡_, refl, sym, ap, _∙_}
+use mathlib.Core.Path.{_≡_, refl}
 use mathlib.Core.Logic.{_⊎_, inl, inr, ⊎-elim}
 use mathlib.Core.Bool.{Bool, true, false, cond}
-use Prim.Native.Nat.{ℕ, zero, suc, _+_, _*_, _≤_, _<_}
+use Prim.Native.Nat.{zero, suc}
 use native.Mathlib.Nat.{mul-le-mul-right}
 use native.Mathlib.Omega.{arith}
 use lib.IntN.{ℤ, pos, negsuc, negℤ, _+ℤ_, _-ℤ_, _*ℤ_}
-use lib.Signed.{ltZ, leZ}
+use lib.Signed.{leZ}
 use Rattle.signed.specs.Words.{minZ, maxZ}
-use Rattle.signed.proofs.Parts.{P, N, Le, Lt, le-true, le-false, ext, neg-parts, plus-parts, minus-parts, times-parts}
+use Rattle.signed.proofs.Parts.{Le, Lt, le-true, le-false, ext, neg-parts, plus-parts, times-parts}
 
 pub le-refl : (a : ℤ) → Le a a
 le-refl a = omega arith
@@ -46,6 +46,22 @@ pub le-total : (a b : ℤ) → Le a b ⊎ Le b a
 le-total a b = ⊎-elim inl (λ h. inr (lt-le h)) (le-or-lt a b)
 
 -- ---- the smaller and the larger of two
+
+pub min-first : (a b : ℤ) → leZ a b ≡ true → minZ a b ≡ a
+unfolding minZ
+min-first a b e = rw e
+
+pub min-second : (a b : ℤ) → leZ a b ≡ false → minZ a b ≡ b
+unfolding minZ
+min-second a b e = rw e
+
+pub max-second : (a b : ℤ) → leZ a b ≡ true → maxZ a b ≡ b
+unfolding maxZ
+max-second a b e = rw e
+
+pub max-first : (a b : ℤ) → leZ a b ≡ false → maxZ a b ≡ a
+unfolding maxZ
+max-first a b e = rw e
 
 -- what holds of each of the two where it is the one taken, holds of the smaller
 min-by : (Q : ℤ → Type 0) (a b : ℤ) → (Le a b → Q a) → (Le b a → Q b) → Q (minZ a b)

@@ -6,10 +6,10 @@ use mathlib.Core.Logic.{_≢_}
 use mathlib.Core.Bool.{Bool, true, false, cond, true≢false, false≢true}
 use Prim.Native.Nat.{ℕ, zero, suc, _+_, _-_, _*_, _≤_, _<_}
 use native.Mathlib.Omega.{arith}
-use lib.Dec.{ltb, leb, eqb}
+use lib.Dec.{ltb}
 use lib.IntN.{ℤ, pos, negsuc, negℤ, subℕ, _+ℤ_, _-ℤ_, _*ℤ_}
 use lib.Signed.{ltZ, leZ}
-use borrow.Author.Tests.{ltb-true, ltb-false, leb-true, leb-false, eqb-true, eqb-false, lt-ltb, le-ltb, le-leb, lt-leb, eq-eqb, ne-eqb}
+use borrow.Author.Tests.{ltb-true, ltb-false, leb-true, leb-false, eqb-true, eq-eqb}
 use Rattle.signed.specs.Words.{eqZ}
 
 -- the positive part
@@ -58,11 +58,11 @@ lt-false (negsuc a) (negsuc b) e = omega (arith, ltb-false b a e)
 
 -- ---- facts to tests
 
-false-by : (t : Bool) → (t ≡ true → ⊥) → t ≡ false
+pub false-by : (t : Bool) → (t ≡ true → ⊥) → t ≡ false
 false-by true f = absurd (f refl)
 false-by false f = refl
 
-true-by : (t : Bool) → (t ≡ false → ⊥) → t ≡ true
+pub true-by : (t : Bool) → (t ≡ false → ⊥) → t ≡ true
 true-by true f = refl
 true-by false f = absurd (f refl)
 

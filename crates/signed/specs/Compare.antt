@@ -15,3 +15,24 @@ holds (suc (suc (suc zero))) x y = leZ x y
 holds (suc (suc (suc (suc zero)))) x y = ltZ y x
 holds (suc (suc (suc (suc (suc zero))))) x y = leZ y x
 holds (suc (suc (suc (suc (suc (suc op)))))) x y = false
+
+-- x lies in l₁..h₁, y in l₂..h₂, and the comparison of x with y comes to t
+pub record Pair (op : ℕ) (t : Bool) (l₁ h₁ l₂ h₂ : ℤ) : Type 0 where
+  pub x : ℤ
+  pub y : ℤ
+  pub in₁ : within l₁ x h₁ ≡ true
+  pub in₂ : within l₂ y h₂ ≡ true
+  pub so : holds op x y ≡ t
+
+-- whether f, which goes by the order of its two arguments alone, is true of some pair of the two ranges: if of any, then of one of these three
+unfoldable pub somePair : (ℤ → ℤ → Bool) → ℤ → ℤ → ℤ → ℤ → Bool
+somePair f l₁ h₁ l₂ h₂ =
+    f l₁ h₂ || f h₁ l₂ || (leZ l₁ h₂ && leZ l₂ h₁ && f (maxZ l₁ l₂) (maxZ l₁ l₂))
+
+-- 01: a comparison's range includes 1 if some pair of values from the two ranges satisfies it
+unfoldable pub canHold : ℕ → ℤ → ℤ → ℤ → ℤ → Bool
+canHold op l₁ h₁ l₂ h₂ = somePair (holds op) l₁ h₁ l₂ h₂
+
+-- and 0 if some pair does not
+unfoldable pub canFail : ℕ → ℤ → ℤ → ℤ → ℤ → Bool
+canFail op l₁ h₁ l₂ h₂ = somePair (λ x y. not (holds op x y)) l₁ h₁ l₂ h₂

@@ -34,12 +34,12 @@ add-result c = let l = limits (c .before .before .before .before .read .result) 
 
 returns-2 : tie.Need-returns-2
 unfolding goodHeader
-returns-2 c =     let e = sym (c .before .before .in-limits .ensures) ∙ c .before .if2 .taken in
+returns-2 c = let e = sym (c .before .before .in-limits .ensures) ∙ c .before .if2 .taken in
     rw (le-leb 16 (length (c .before .before .before .before .before .before .args .s .now)) (c .before .before .before .before .before .if1 .left), c .before .before .before .good-frame .ensures, ← c .before .before .before .before .read .ensures, e, and-yes, c .records .ensures)
 
 returns-3 : tie.Need-returns-3
 unfolding goodHeader
-returns-3 c =     let e = sym (c .before .in-limits .ensures) ∙ c .if2 .left in
+returns-3 c = let e = sym (c .before .in-limits .ensures) ∙ c .if2 .left in
     rw (le-leb 16 (length (c .before .before .before .before .before .args .s .now)) (c .before .before .before .before .if1 .left), ← c .before .before .before .read .ensures, e, and-no)
 
 pub good-header-spec : {M : Type 1} → statement M
