@@ -6,3 +6,4 @@ pub mod Entities
 pub mod Operations
 pub mod Flows
 pub mod Accept
+pub mod Accepted

@@ -13,7 +13,7 @@ use Rattle.layout.specs.declared.Header.{Header}
 use Rattle.layout.specs.Header.{firstNode}
 use Rattle.layout.specs.Tables.{fact, node}
 use Rattle.node.specs.declared.Kind.{Kind}
-use Rattle.node.specs.declared.Range.{Range}
+use Rattle.node.specs.declared.range.Range.{Range}
 use Rattle.node.specs.Kinds.{kindOf, hasLeft, hasRight, left, right, goodWords}
 use Rattle.node.specs.Types.{factType, typeFrom, goodTypes}
 use Rattle.node.specs.Ranges.{span, rangeFrom, goodSpan}

@@ -62,15 +62,15 @@ returns c = simp (c .enum-told .given .1, c .before .before .before .before .unu
 
 returns-2 : tie.Need-returns-2
 unfolding goodWords
-returns-2 c = simp (c .before .enum-told2 .given .1, c .before .before .before .before .before .unused .ensures, c .before .before .before .before .before .before .bounded .ensures)
+returns-2 c = simp (c .before .enum-told2 .given .1, c .before .before .before .before .before .unused .ensures)
 
 returns-3 : tie.Need-returns-3
 unfolding goodWords
-returns-3 c = simp (c .before .before .enum-told3 .given .1, c .before .before .before .before .before .unused2 .ensures, c .before .before .before .before .before .before .unused .ensures, c .before .before .before .before .before .before .before .bounded .ensures)
+returns-3 c = simp (c .before .before .enum-told3 .given .1, c .before .before .before .before .before .unused2 .ensures)
 
 returns-4 : tie.Need-returns-4
 unfolding goodWords
-returns-4 c = simp (c .before .before .enum-told4 .given .1, c .before .before .before .before .before .before .unused .ensures, c .before .before .before .before .before .before .before .bounded .ensures)
+returns-4 c = simp (c .before .before .enum-told4 .given .1, c .before .before .before .before .before .before .unused .ensures)
 
 returns-5 : tie.Need-returns-5
 unfolding goodWords
@@ -82,15 +82,15 @@ returns-6 c = simp (c .enum-told6 .given .1, c .before .before .before .unused2 
 
 returns-7 : tie.Need-returns-7
 unfolding goodWords
-returns-7 c = simp (c .before .enum-told7 .given .1, c .before .before .before .before .unused2 .ensures, c .before .before .before .before .before .before .bounded .ensures)
+returns-7 c = simp (c .before .enum-told7 .given .1, c .before .before .before .before .unused2 .ensures)
 
 returns-8 : tie.Need-returns-8
 unfolding goodWords
-returns-8 c = simp (c .before .enum-told8 .given .1, c .before .before .before .unused3 .ensures, c .before .before .before .before .before .before .bounded .ensures)
+returns-8 c = simp (c .before .enum-told8 .given .1, c .before .before .before .unused3 .ensures)
 
 returns-9 : tie.Need-returns-9
 unfolding goodWords
-returns-9 c = simp (c .before .before .enum-told9 .given .1, c .before .before .before .before .before .before .unused .ensures, c .before .before .before .before .before .before .before .bounded .ensures)
+returns-9 c = simp (c .before .before .enum-told9 .given .1, c .before .before .before .before .before .before .unused .ensures)
 
 returns-10 : tie.Need-returns-10
 unfolding goodWords
