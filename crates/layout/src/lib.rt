@@ -25,6 +25,19 @@ pub struct Header {
     pub routes: usize,
 }
 
+// Numbers that have been checked to exist, each of its own type, so that one cannot be passed for another.
+pub struct Persona(pub usize);
+
+pub struct Operation(pub usize);
+
+pub struct Entity(pub usize);
+
+pub struct Node(pub usize);
+
+pub struct Rule(pub usize);
+
+pub struct Flow(pub usize);
+
 impl Header {
     pub const PERSONAS: usize = 24;
 

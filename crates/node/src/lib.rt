@@ -3,6 +3,7 @@ ghost use mathlib.Core.Path.{_≡_};
 ghost use Rattle.node.specs.Kinds.{kindOf, hasLeft, hasRight, left, right, goodWords};
 ghost use Rattle.node.specs.Types.{typeFrom, goodTypes, factType, Set};
 ghost use Prim.Native.Nat.{_≤_};
+
 pub mod range;
 
 use layout::Header;

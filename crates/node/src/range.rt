@@ -5,9 +5,15 @@ ghost use lib.IntN.{pos, _+ℤ_, _-ℤ_, _*ℤ_};
 ghost use Rattle.signed.specs.Words.{bounded, minZ, maxZ};
 ghost use Rattle.signed.specs.Compare.{canHold, canFail};
 ghost use Rattle.node.specs.Ranges.{span, comparedSpan, rangeFrom, goodSpan, Bounded, Factor};
-
 use crate::Kind;
-use signed::{bounded, can_fail, can_hold, larger, minus, plus, smaller, times};
+use signed::bounded;
+use signed::can_fail;
+use signed::can_hold;
+use signed::larger;
+use signed::minus;
+use signed::plus;
+use signed::smaller;
+use signed::times;
 
 // The values from `low` to `high`, both included.
 pub struct Range {

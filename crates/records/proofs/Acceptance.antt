@@ -106,5 +106,5 @@ accepted s a =
       effects = first-good _ _ h6;
       flows = first-good _ _ h7;
       steps = first-good _ _ h8;
-      routes = first-good _ _ h9
+      routes = first-good _ _ h9;
     }

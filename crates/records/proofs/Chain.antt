@@ -39,7 +39,7 @@ first-scanned (here {t = t} {ts = ts} {k = k} r l) =
       low = omega arith;
       high = omega arith;
       passed = λ j p q. in-first t ts j (omega arith) ∙ r .passed j p q;
-      fails = λ _. in-first t ts k l ∙ r .fails l
+      fails = λ _. in-first t ts k l ∙ r .fails l;
     }
 first-scanned (later {t = t} {ts = ts} {k = k} h r) =
     let q = first-scanned r in
@@ -47,7 +47,7 @@ first-scanned (later {t = t} {ts = ts} {k = k} h r) =
       low = omega arith;
       high = omega (arith, q .high);
       passed = λ j p l. go q j l (decLt j (t .size));
-      fails = λ l. in-rest t ts k ∙ q .fails (omega arith)
+      fails = λ l. in-rest t ts k ∙ q .fails (omega arith);
     }
   where
     go : Scanned (goodIn ts) 0 (total ts) k → (j : ℕ) → j < t .size + k → Dec (j < t .size) → goodIn (t ∷ ts) j ≡ true
