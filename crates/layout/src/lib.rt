@@ -96,18 +96,46 @@ impl Header {
             & (self.routes <= Header::ROUTES)
     }
 
+    pub fn first_rule(self) -> usize
+        requires { ⌜ Limits self ⌝ }
+        ensures { λ r. ⌜ r ≡ firstRule self ⌝ }
+    {
+        self.facts + self.nodes
+    }
+
+    pub fn first_entity(self) -> usize
+        requires { ⌜ Limits self ⌝ }
+        ensures { λ r. ⌜ r ≡ firstEntity self ⌝ }
+    {
+        self.first_rule() + self.rules
+    }
+
+    pub fn first_transition(self) -> usize
+        requires { ⌜ Limits self ⌝ }
+        ensures { λ r. ⌜ r ≡ firstTransition self ⌝ }
+    {
+        self.first_entity() + self.entities
+    }
+
     pub fn first_operation(self) -> usize
         requires { ⌜ Limits self ⌝ }
         ensures { λ r. ⌜ r ≡ firstOperation self ⌝ }
     {
-        self.facts + self.nodes + self.rules + self.entities + self.transitions
+        self.first_transition() + self.transitions
+    }
+
+    pub fn first_effect(self) -> usize
+        requires { ⌜ Limits self ⌝ }
+        ensures { λ r. ⌜ r ≡ firstEffect self ⌝ }
+    {
+        self.first_operation() + self.operations
     }
 
     pub fn first_flow(self) -> usize
         requires { ⌜ Limits self ⌝ }
         ensures { λ r. ⌜ r ≡ firstFlow self ⌝ }
     {
-        self.first_operation() + self.operations + self.effects
+        self.first_effect() + self.effects
     }
 
     pub fn first_step(self) -> usize
@@ -117,11 +145,18 @@ impl Header {
         self.first_flow() + self.flows
     }
 
+    pub fn first_route(self) -> usize
+        requires { ⌜ Limits self ⌝ }
+        ensures { λ r. ⌜ r ≡ firstRoute self ⌝ }
+    {
+        self.first_step() + self.steps
+    }
+
     pub fn records(self) -> usize
         requires { ⌜ Limits self ⌝ }
         ensures { λ r. ⌜ r ≡ records self ⌝ }
     {
-        self.first_step() + self.steps + self.routes
+        self.first_route() + self.routes
     }
 }
 

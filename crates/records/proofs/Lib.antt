@@ -1,3 +1,5 @@
+pub mod Shift
+pub mod Parts
 pub mod Chain
 pub mod Acceptance
 pub mod FactLaws

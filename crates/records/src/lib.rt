@@ -1,11 +1,118 @@
-// When each record of a sheet is good.
+// Tests of a single record, from its words and from the numbers that earlier records give.
 ghost use mathlib.Core.Path.{_≡_};
-ghost use Rattle.records.specs.Entities.{goodEntity};
+ghost use Prim.Native.Nat.{ℕ, _≤_, _<_};
+ghost use mathlib.Core.Bool.{true};
+ghost use Rattle.layout.specs.Sized.{Sized};
+ghost use Rattle.records.specs.Facts.{goodBounds, goodSet, goodDefault};
+ghost use Rattle.records.specs.Nodes.{goodChildren};
+ghost use Rattle.records.specs.Entities.{goodEntity, goodChange};
+ghost use Rattle.records.specs.Operations.{goodMask, goodOperation, goodOutcome};
+ghost use Rattle.records.specs.Flows.{goodOperationStep, goodRouteOf};
+use layout::Header;
+use signed::at_most;
+use signed::bounded;
+use signed::within;
 use words::Record;
+use words::number;
 use words::unused;
+
+pub fn good_bounds(r: Record, min: i64, max: i64) -> bool
+    ensures { λ b. ⌜ b ≡ goodBounds r min max ⌝ }
+{
+    let int = bounded(min) & at_most(min, max) & bounded(max);
+    let kind = r.w0;
+    match kind {
+        0 => (r.w1 == 0) & (r.w2 == 1),
+        1 => int,
+        2 => (r.w1 == 0) & (r.w2 <= 255),
+        3.. => false,
+    }
+}
+
+pub fn good_set(r: Record) -> bool
+    ensures { λ b. ⌜ b ≡ goodSet r ⌝ }
+{
+    if r.w0 == 2 { r.w5 <= 127 } else { r.w5 == 0 }
+}
+
+pub fn good_default(r: Record, min: i64, max: i64, default: i64) -> bool
+    ensures { λ b. ⌜ b ≡ goodDefault r min max default ⌝ }
+{
+    let inside = within(min, default, max);
+    if r.w3 == 0 {
+        r.w4 == 0
+    } else {
+        (r.w3 == 1) & inside
+    }
+}
+
+pub fn good_children(n: usize, l: bool, a: usize, x: bool, r: bool, b: usize, y: bool) -> bool
+    ensures { λ g. ⌜ g ≡ goodChildren n l a x r b y ⌝ }
+{
+    (!l | ((a < n) & !x)) & (!r | ((b < n) & !y & !(a == b)))
+}
 
 pub fn good_entity(r: Record) -> bool
     ensures { λ b. ⌜ b ≡ goodEntity r ⌝ }
 {
     (1 <= r.w0) & (r.w0 <= 16) & (r.w1 < r.w0) & unused(2, r)
+}
+
+pub fn good_change(s: &[i64], h: Header, r: Record) -> bool
+    requires { ⌜ Sized (now s) h ⌝ }
+    ensures { λ b. ⌜ b ≡ goodChange (now (s .entry)) h r ⌝ }
+{
+    if r.w0 < h.entities {
+        let n = number(s, h.first_entity() + r.w0, 0);
+        (r.w1 < n) & (r.w2 < n)
+    } else {
+        false
+    }
+}
+
+pub fn good_mask(h: Header, mask: usize) -> bool
+    requires { ⌜ h .personas ≤ 24 ⌝ }
+    ensures { λ b. ⌜ b ≡ goodMask h mask ⌝ }
+{
+    let top = 1usize << h.personas;
+    (1 <= mask) & (mask < top)
+}
+
+pub fn good_outcome(first: bool, last: bool, before: usize, outcomes: usize, out: usize) -> bool
+    requires { ⌜ before < 8 ⌝ }
+    ensures { λ b. ⌜ b ≡ goodOutcome first last before outcomes out ⌝ }
+{
+    if out < outcomes {
+        let ends = !last | (out + 1 == outcomes);
+        if first {
+            (out == 0) & ends
+        } else {
+            ((out == before) | (out == before + 1)) & ends
+        }
+    } else {
+        false
+    }
+}
+
+pub fn good_operation_step(s: &[i64], h: Header, r: Record) -> bool
+    requires { ⌜ Sized (now s) h × ((k : ℕ) → k < h .operations → goodOperation (now s) h k ≡ true) ⌝ }
+    ensures { λ b. ⌜ b ≡ goodOperationStep (now (s .entry)) h r ⌝ }
+{
+    if r.w1 < h.operations {
+        let outcomes = number(s, h.first_operation() + r.w1, 4);
+        (r.w2 < h.personas) & (r.w4 == outcomes + 1)
+    } else {
+        false
+    }
+}
+
+pub fn good_route_of(owner: usize, end: usize, r: Record) -> bool
+    ensures { λ b. ⌜ b ≡ goodRouteOf owner end r ⌝ }
+{
+    let tail = unused(2, r);
+    if r.w0 == 0 {
+        (owner < r.w1) & (r.w1 < end) & tail
+    } else {
+        (r.w0 == 1) & (r.w1 <= 2) & tail
+    }
 }

@@ -95,3 +95,12 @@ and-yes false = refl
 pub and-no : (a : Bool) → (a && false) ≡ false
 and-no true = refl
 and-no false = refl
+
+-- a test in the middle of a chain that is known
+pub mid-yes : (a b : Bool) → (a && true && b) ≡ (a && b)
+mid-yes true b = refl
+mid-yes false b = refl
+
+pub mid-no : (a b : Bool) → (a && false && b) ≡ false
+mid-no true b = refl
+mid-no false b = refl

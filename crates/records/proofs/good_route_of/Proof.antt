@@ -1,0 +1,20 @@
+-- `records::good_route_of` meets its contract. Assumes nothing.
+use Rattle.records.specs.Flows.{goodRouteOf}
+use borrow.Author.Tests.{eq-eqb, ne-eqb}
+use borrow.Author.Needs.{needs}
+use Rattle.records.proofs.good_route_of.Statement.{statement}
+use Rattle.records.proofs.good_route_of.Tie as tie
+
+unused-requires : tie.Need-unused-requires
+unused-requires c κs = search needs
+
+returns : tie.Need-returns
+unfolding goodRouteOf
+returns c = rw (eq-eqb _ _ (c .before .before .if1 .taken), c .before .before .before .before .unused .ensures)
+
+returns-2 : tie.Need-returns-2
+unfolding goodRouteOf
+returns-2 c = rw (ne-eqb _ _ (c .before .before .if1 .left), c .before .before .before .before .unused .ensures)
+
+pub good-route-of-spec : {M : Type 1} → statement M
+good-route-of-spec = tie.close (tie.spec unused-requires returns returns-2)
