@@ -92,3 +92,14 @@ module _ (f : ℕ → Bool) where
   -- and the definition's number is a scan's answer
   pub first-scan : (n : ℕ) → Scanned f 0 n (firstFail f 0 n)
   first-scan n = subst (λ (m : ℕ). Scanned f 0 m (firstFail f 0 n)) (omega arith) (scan 0 n)
+
+  -- what a loop returns: at the first failure, and past the last number
+  pub fail-at : (n k : ℕ) → k < n → ((j : ℕ) → j < k → f j ≡ true) → f k ≡ false → k ≡ firstFail f 0 n
+  fail-at n k l h e = sym (first-fail n k (stopped 0 n k (omega arith) l (λ j _ q. h j q) e))
+
+  pub fail-none : (n k : ℕ) → k ≤ n → n ≤ k → ((j : ℕ) → j < k → f j ≡ true) → k ≡ firstFail f 0 n
+  fail-none n k a b h = sym (first-fail n k (ended 0 n k (omega arith) a b (λ j _ q. h j q)))
+
+  -- where the first failure is past the last number, all pass
+  pub all-pass : (n : ℕ) → n ≤ firstFail f 0 n → (j : ℕ) → j < n → f j ≡ true
+  all-pass n h j l = first-scan n .passed j (omega arith) (omega arith)

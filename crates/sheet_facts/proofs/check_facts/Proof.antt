@@ -1,0 +1,74 @@
+-- `sheet_facts::check_facts` meets its contract. Assumes nothing.
+use Rattle.records.specs.Facts.{goodFact}
+use Rattle.tables.proofs.Scanned.{fail-at, fail-none}
+use Rattle.sheet_facts.proofs.Maxes.{Noted, none, again, stop}
+use native.Mathlib.Omega.{arith}
+use Prim.Native.Nat.{_≤_, _-_}
+use borrow.Author.Needs.{needs}
+use Rattle.sheet_facts.proofs.check_facts.Statement.{statement}
+use Rattle.sheet_facts.proofs.check_facts.Tie as tie
+
+abbrev Inv-loop : tie.InvT-loop
+Inv-loop s n maxes₀ k₀ maxes k = (k ≤ n) × Noted s k maxes
+
+abbrev μ-loop : tie.MeasureT-loop
+μ-loop s n maxes₀ k₀ maxes k = n - k
+
+loop-holds : tie.Need-loop-holds Inv-loop μ-loop
+loop-holds c = (omega arith, none _)
+
+record-at-requires : tie.Need-record-at-requires Inv-loop μ-loop
+record-at-requires c κs = search needs
+
+slice-aggregate-entry : tie.Need-slice-aggregate-entry Inv-loop μ-loop
+slice-aggregate-entry c = search needs
+
+entry-requires : tie.Need-entry-requires Inv-loop μ-loop
+entry-requires c κs = search needs
+
+good-alone-requires : tie.Need-good-alone-requires Inv-loop μ-loop
+good-alone-requires c κs = search needs
+
+agrees-requires : tie.Need-agrees-requires Inv-loop μ-loop
+agrees-requires c κs = search needs
+
+slice-aggregate-note : tie.Need-slice-aggregate-note Inv-loop μ-loop
+slice-aggregate-note c = search needs
+
+note-requires : tie.Need-note-requires Inv-loop μ-loop
+note-requires c κs = search needs
+
+add-k : tie.Need-add-k Inv-loop μ-loop
+add-k c = search needs
+
+loop-less : tie.Need-loop-less Inv-loop μ-loop
+loop-less c = search needs
+
+loop-again : tie.Need-loop-again Inv-loop μ-loop
+loop-again c = (omega arith, again _ _ _ (c .before .before .before .before .before .before .before .before .before .before .loop .inv .1) (c .before .before .before .before .before .before .before .before .record-at .ensures) (c .before .before .before .before .before .before .entry .ensures) (c .before .before .before .before .before .good-alone .ensures) (c .before .before .before .before .agrees .ensures) (c .before .before .before .if1 .taken) (c .before .note .ensures))
+
+returns : tie.Need-returns Inv-loop μ-loop
+returns c = fail-at (goodFact (c .before .before .before .before .before .before .before .before .args .s .now)) _ _ (c .before .before .before .before .before .before .loop-test .taken) (c .before .before .before .before .before .before .before .loop .inv .1 .good) (stop _ _ _ (c .before .before .before .before .before .before .before .loop .inv .1) (c .before .before .before .before .before .record-at .ensures) (c .before .before .before .entry .ensures) (c .before .before .good-alone .ensures) (c .before .agrees .ensures) (c .if1 .left))
+
+returns-2 : tie.Need-returns-2 Inv-loop μ-loop
+returns-2 c = fail-none (goodFact (c .before .before .args .s .now)) _ _ (c .before .loop .inv .0) (c .loop-test .left) (c .before .loop .inv .1 .good)
+
+pub check-facts-spec : {M : Type 1} → statement M
+check-facts-spec =
+    tie.close
+    (tie.spec
+    Inv-loop
+    μ-loop
+    loop-holds
+    record-at-requires
+    slice-aggregate-entry
+    entry-requires
+    good-alone-requires
+    agrees-requires
+    slice-aggregate-note
+    note-requires
+    add-k
+    loop-less
+    loop-again
+    returns
+    returns-2)

@@ -1,0 +1,29 @@
+-- `sheet_facts::note` meets its contract. Assumes nothing.
+use lib.Seq.{set-out}
+use mathlib.Core.Path.{sym}
+use borrow.Author.Tests.{eq-eqb, ne-eqb}
+use borrow.Author.Needs.{needs}
+use Rattle.sheet_facts.proofs.note.Statement.{statement}
+use Rattle.sheet_facts.proofs.note.Tie as tie
+
+mul-maxes : tie.Need-mul-maxes
+mul-maxes c = search needs
+
+slice-write-maxes : tie.Need-slice-write-maxes
+slice-write-maxes c = search needs
+
+same-length : tie.Need-same-length
+same-length c = search needs
+
+returns : tie.Need-returns
+returns c = rw (eq-eqb _ _ (c .before .if1 .taken))
+
+returns-2 : tie.Need-returns-2
+returns-2 c = rw (eq-eqb _ _ (c .before .if1 .taken)) (sym (set-out (c .before .before .before .args .maxes .now) (c .before .before .before .args .r .w5) (c .before .before .before .args .r .w2) (c .if2 .left)))
+
+returns-3 : tie.Need-returns-3
+returns-3 c = rw (ne-eqb _ _ (c .if1 .left))
+
+pub note-spec : {M : Type 1} → statement M
+note-spec =
+    tie.close (tie.spec mul-maxes slice-write-maxes same-length returns returns-2 returns-3)
