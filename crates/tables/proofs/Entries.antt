@@ -21,7 +21,7 @@ module _ {A : Type 0} (f : ℕ → A) (d : A) where
   stored t n v l h e j q =
       ⊎-elim (λ p. getD-set-other t n j v d (λ z. omega (arith, z)) ∙ h j p) (λ z. rw z (getD-set-same t n v d l ∙ e)) (below-suc j n (rw add-one at q))
 
-or-true : (b : Bool) → (b || true) ≡ true
+pub or-true : (b : Bool) → (b || true) ≡ true
 or-true true = refl
 or-true false = refl
 

@@ -1,0 +1,66 @@
+-- `sheet_states::check_entities` meets its contract. Assumes nothing.
+use Rattle.records.specs.Entities.{goodEntity}
+use Rattle.layout.specs.Tables.{entity}
+use Rattle.words.specs.Record.{recordAt}
+use Rattle.tables.proofs.Scans.{extend-one}
+use Rattle.tables.proofs.Scanned.{fail-at, fail-none}
+use native.Mathlib.Omega.{arith}
+use mathlib.Core.Bool.{true}
+use mathlib.Core.Path.{_≡_}
+use Prim.Native.Nat.{ℕ, _+_, _-_, _≤_, _<_}
+use borrow.Author.Needs.{needs}
+use Rattle.sheet_states.proofs.check_entities.Statement.{statement}
+use Rattle.sheet_states.proofs.check_entities.Tie as tie
+
+abbrev Inv-loop : tie.InvT-loop
+Inv-loop s base n k₀ k = (k ≤ n) × ((j : ℕ) → j < k → goodEntity (recordAt s (base + j)) ≡ true)
+
+abbrev μ-loop : tie.MeasureT-loop
+μ-loop s base n k₀ k = n - k
+
+first-entity-requires : tie.Need-first-entity-requires Inv-loop μ-loop
+first-entity-requires c κs = search needs
+
+loop-holds : tie.Need-loop-holds Inv-loop μ-loop
+loop-holds c = (omega arith, λ j l. absurd (omega arith))
+
+add-record-at : tie.Need-add-record-at Inv-loop μ-loop
+add-record-at c = search needs
+
+record-at-requires : tie.Need-record-at-requires Inv-loop μ-loop
+record-at-requires c κs = search needs
+
+good-entity-requires : tie.Need-good-entity-requires Inv-loop μ-loop
+good-entity-requires c κs = search needs
+
+add-k : tie.Need-add-k Inv-loop μ-loop
+add-k c = search needs
+
+loop-less : tie.Need-loop-less Inv-loop μ-loop
+loop-less c = search needs
+
+loop-again : tie.Need-loop-again Inv-loop μ-loop
+loop-again c = (omega arith, extend-one (λ (j : ℕ). goodEntity (recordAt (c .before .before .before .before .before .before .args .s .now) (c .before .before .before .before .before .first-entity .result + j)) ≡ true) _ (c .before .before .before .before .loop .inv .1) (rw (← c .before .before .record-at .ensures, ← c .before .good-entity .ensures) (c .if1 .taken)))
+
+returns : tie.Need-returns Inv-loop μ-loop
+returns c = fail-at (λ (e : ℕ). goodEntity (entity (c .before .before .before .before .before .before .args .s .now) (c .before .before .before .before .before .before .args .h) e)) _ _ (c .before .before .before .loop-test .taken) (λ j l. rw (← c .before .before .before .before .before .first-entity .ensures) (c .before .before .before .before .loop .inv .1 j l)) (rw (← c .before .before .before .before .before .first-entity .ensures) (rw (← c .before .before .record-at .ensures, ← c .before .good-entity .ensures) (c .if1 .left)))
+
+returns-2 : tie.Need-returns-2 Inv-loop μ-loop
+returns-2 c = fail-none (λ (e : ℕ). goodEntity (entity (c .before .before .before .args .s .now) (c .before .before .before .args .h) e)) _ _ (c .before .loop .inv .0) (c .loop-test .left) (λ j l. rw (← c .before .before .first-entity .ensures) (c .before .loop .inv .1 j l))
+
+pub check-entities-spec : {M : Type 1} → statement M
+check-entities-spec =
+    tie.close
+    (tie.spec
+    Inv-loop
+    μ-loop
+    first-entity-requires
+    loop-holds
+    add-record-at
+    record-at-requires
+    good-entity-requires
+    add-k
+    loop-less
+    loop-again
+    returns
+    returns-2)
