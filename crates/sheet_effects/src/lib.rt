@@ -1,0 +1,74 @@
+// The scan of the effects, operation by operation. For each (entity, from) an array holds the stamp of the outcome that last had an
+// effect from there.
+ghost use mathlib.Core.Path.{_≡_};
+ghost use mathlib.Core.Bool.{true, false, not, _&&_};
+ghost use Prim.Native.Nat.{ℕ, _+_, _*_, _≤_, _<_};
+ghost use lib.Dec.{eqb};
+ghost use lib.ListN.{length, getD};
+ghost use Rattle.tables.specs.Scan.{firstFail};
+ghost use Rattle.sheet_states.specs.Flags.{placeOf, Small, Declared};
+ghost use Rattle.records.specs.Operations.{goodEffect};
+ghost use Rattle.sheet_effects.specs.Stamps.{sourceOf, Before, Group, Seen, Stretch};
+
+use layout::Header;
+use records::{good_change, good_outcome};
+use sheet_states::place_of;
+use words::{number, record_at, unused, Record};
+
+// Whether the transition is declared, and the outcome with this stamp has no effect from this state of this entity yet.
+fn fresh(declared: &[bool], seen: &[usize], r: Record, stamp: usize) -> bool
+    requires { ⌜ Small r × (length (now declared) ≡ 8192) × (length (now seen) ≡ 512) ⌝ }
+    ensures { λ b. ⌜ b ≡ (getD (now (declared .entry)) (placeOf r) false && not (eqb (getD (now (seen .entry)) (sourceOf r) 0) stamp)) ⌝ }
+{
+    let p = place_of(r);
+    let q = 16 * r.w0 + r.w1;
+    declared[p] & !(seen[q] == stamp)
+}
+
+// The effects of operation o.
+fn check_group(s: &[i64], h: Header, o: usize, first: usize, end: usize, outcomes: usize, declared: &[bool], seen: &mut [usize]) -> usize
+    requires { ⌜ Before (now s) h (now declared) × Group (now s) h o first end outcomes × Seen (now s) h first (now seen) ⌝ }
+    ensures { λ e. ⌜ Stretch (now (s .entry)) h first end e (now (seen .exit)) ⌝ }
+{
+    let base = h.first_effect();
+    let mut before = 0;
+    let mut e = first;
+    while e < end {
+        let r = record_at(s, base + e);
+        let good = good_outcome(e == first, e + 1 == end, before, outcomes, r.w3);
+        if !(good_change(s, h, r) & unused(4, r) & good) {
+            return e;
+        }
+        let stamp = 8 * o + r.w3 + 1;
+        if !fresh(declared, seen, r, stamp) {
+            return e;
+        }
+        let q = 16 * r.w0 + r.w1;
+        seen[q] = stamp;
+        before = r.w3;
+        e += 1;
+    }
+    e
+}
+
+pub fn check_effects(s: &[i64], h: Header, declared: &[bool]) -> usize
+    requires { ⌜ Before (now s) h (now declared) ⌝ }
+    ensures { λ e. ⌜ e ≡ firstFail (goodEffect (now (s .entry)) h) 0 (h .effects) ⌝ }
+{
+    let mut seen = [0usize; 512];
+    let base = h.first_operation();
+    let n = h.operations;
+    let mut first = 0;
+    let mut o = 0;
+    while o < n {
+        let end = first + number(s, base + o, 3);
+        let outcomes = number(s, base + o, 4);
+        let e = check_group(s, h, o, first, end, outcomes, declared, &mut seen);
+        if e < end {
+            return e;
+        }
+        first = end;
+        o += 1;
+    }
+    first
+}
