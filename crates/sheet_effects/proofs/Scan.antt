@@ -13,20 +13,21 @@ use native.Mathlib.Omega.{arith}
 use native.Mathlib.Numerals.{add-one}
 use native.Mathlib.Decide.{ℕ-discrete, decLt}
 use borrow.Author.Tests.{eq-eqb, ne-eqb, eqb-true, eqb-false}
-use Rattle.tables.specs.Scan.{anyBelow}
+use Rattle.tables.specs.Scan.{anyBelow, sumBelow, firstFail}
 use Rattle.tables.proofs.Bools.{tests, bool-cases, true-false, and-true, and-left, and-right}
-use Rattle.tables.proofs.Scans.{any-same, extend-one}
+use Rattle.tables.proofs.Scans.{any-same, extend-one, sum-zero, sum-more}
+use Rattle.tables.proofs.Scanned.{fail-at, fail-none}
 use Rattle.words.specs.declared.Record.{Record}
-use Rattle.words.specs.Record.{recordAt, unused}
+use Rattle.words.specs.Record.{number, recordAt, unused}
 use Rattle.layout.specs.declared.Header.{Header}
-use Rattle.layout.specs.Header.{firstEffect}
+use Rattle.layout.specs.Header.{firstOperation, firstEffect}
 use Rattle.layout.specs.Tables.{operation, effect}
 use Rattle.records.specs.Entities.{goodChange, declared}
 use Rattle.records.specs.Operations.{goodEffect, goodEffectOf, goodOutcome, operationOf, outcome, effectsEnd, sameSource}
 use Rattle.sheet_states.specs.Flags.{Small, placeOf, Declared}
 use Rattle.sheet_states.proofs.Flags.{small-change}
 use Rattle.sheet_effects.specs.Stamps.{sourceOf, stampOf, lastStamp, Before, Group, Seen, Stretch}
-use Rattle.sheet_effects.proofs.Stamps.{outcomeTest, effect-outcome, out-small, ordered, ordered-next, any-last, same-source, belongs, exists, ends-in}
+use Rattle.sheet_effects.proofs.Stamps.{outcomeTest, effect-outcome, out-small, ordered, ordered-next, any-last, same-source, belongs, ends-in, starts, covers}
 
 -- at the loop's head: e good effects so far, and the outcome of the effect before
 pub record Turn (s : List ℤ) (h : Header) (first end e before : ℕ) (t : List ℕ) : Type 0 where
@@ -49,7 +50,7 @@ effect-unused s h e p = let q = simp tests at p in q .0 .0 .1
 
 -- with three of its parts known, an effect is good if its transition is declared and its source is new
 effect-rest : (s : List ℤ) (h : Header) (e : ℕ) → goodChange s h (effect s h e) ≡ true → unused 4 (effect s h e) ≡ true → outcomeTest s h (operationOf s h e) e ≡ true
-  → goodEffect s h e ≡ (declared s h (h .transitions) (effect s h e) && not (anyBelow (sameSource s h e) e))
+    → goodEffect s h e ≡ (declared s h (h .transitions) (effect s h e) && not (anyBelow (sameSource s h e) e))
 unfolding goodEffect goodEffectOf
 effect-rest s h e a b c = rw (a, b, c) (mid (declared s h (h .transitions) (effect s h e)) (not (anyBelow (sameSource s h e) e)))
   where
@@ -63,8 +64,7 @@ unfolding goodOutcome
 first-any last b b′ outcomes out = refl
 
 module _ (s : List ℤ) (h : Header) (d : List Bool) (o first end outcomes e before : ℕ) (t : List ℕ)
-  (z : Before s h d) (g : Group s h o first end outcomes) (w : Turn s h first end e before t) (l : e < end) where
-
+    (z : Before s h d) (g : Group s h o first end outcomes) (w : Turn s h first end e before t) (l : e < end) where
   pub inside : e < h .effects
   inside = omega (arith, ends-in s h (z .groups) (z .operations) o (g .here), g .ends)
 
@@ -80,7 +80,7 @@ module _ (s : List ℤ) (h : Header) (d : List Bool) (o first end outcomes e bef
       go (no n) = rw (w .last n)
 
   module _ {r : Record} {a b c : Bool} {base : ℕ} (eb : base ≡ firstEffect h) (er : r ≡ recordAt s (base + e)) (ea : a ≡ goodChange s h r) (eu : b ≡ unused 4 r)
-    (ec : c ≡ goodOutcome (eqb e first) (eqb (e + 1) end) before outcomes (r .w3)) where
+      (ec : c ≡ goodOutcome (eqb e first) (eqb (e + 1) end) before outcomes (r .w3)) where
     is : r ≡ effect s h e
     is = er ∙ rw eb
 
@@ -137,8 +137,8 @@ module _ (s : List ℤ) (h : Header) (d : List Bool) (o first end outcomes e bef
               seen = record {
                 long = length-set t (sourceOf r) m ∙ w .seen .long;
                 stamps = λ y q. stored y q (ℕ-discrete (sourceOf r) y);
-                good = extend-one (λ (j : ℕ). goodEffect s h j ≡ true) e (w .seen .good) (sym fresh-is ∙ x)
-              }
+                good = extend-one (λ (j : ℕ). goodEffect s h j ≡ true) e (w .seen .good) (sym fresh-is ∙ x);
+              };
             }
           where
             stored : (y : ℕ) → y < 512 → Dec (sourceOf r ≡ y) → getD (set t (sourceOf r) m) y 0 ≡ lastStamp s h y (e + 1)
@@ -155,3 +155,50 @@ finished {s} {h} {first} {end} {e} {before} {t} w l =
 
 pub kept : {s : List ℤ} {h : Header} {e e′ : ℕ} {t u : List ℕ} → Seen s h e t → Seen s h e′ u → length t ≡ length u
 kept a b = a .long ∙ sym (b .long)
+
+-- ---- operation by operation
+
+pub record Walk (s : List ℤ) (h : Header) (o first : ℕ) (t : List ℕ) : Type 0 where
+  pub here : o ≤ h .operations
+  pub at : first ≡ sumBelow (λ k. operation s h k .w3) o
+  pub seen : Seen s h first t
+
+pub set-out : (s : List ℤ) (h : Header) → Walk s h 0 0 (replicate 512 0)
+set-out s h =
+    record {
+      here = omega arith;
+      at = sym (sum-zero (λ k. operation s h k .w3));
+      seen = record { long = length-replicate {A = ℕ} 512 0; stamps = λ x l. getD-replicate {A = ℕ} 512 x 0 0 l ∙ none x; good = λ j l. absurd (omega arith) };
+    }
+  where
+    none : (x : ℕ) → 0 ≡ lastStamp s h x 0
+    none x = unfold lastStamp in refl
+
+module _ (s : List ℤ) (h : Header) (d : List Bool) (o first : ℕ) (t : List ℕ) (z : Before s h d) (w : Walk s h o first t) (l : o < h .operations)
+    {base m : ℕ} (eb : base ≡ firstOperation h) (em : m ≡ number s (base + o) 3) where
+  count-is : m ≡ operation s h o .w3
+  count-is = em ∙ rw eb (unfold recordAt in refl)
+
+  start-is : first ≡ operation s h o .w2
+  start-is = w .at ∙ sym (starts s h (z .groups) (z .operations) o l)
+
+  end-is : first + m ≡ effectsEnd s h o
+  end-is = rw (start-is, count-is)
+
+  pub end-inside : first + m ≤ h .effects
+  end-inside = omega (arith, ends-in s h (z .groups) (z .operations) o l, end-is)
+
+  pub group : {outs : ℕ} → outs ≡ number s (base + o) 4 → Group s h o first (first + m) outs
+  group eo = record { here = l; starts = start-is; ends = end-is; has = eo ∙ rw eb (unfold recordAt in refl) }
+
+  module _ {e : ℕ} {u : List ℕ} (x : Stretch s h first (first + m) e u) where
+    pub onward : first + m ≤ e → Walk s h (o + 1) (first + m) u
+    onward q = record { here = omega arith; at = rw (sum-more (λ k. operation s h k .w3) o, w .at, count-is); seen = x .seen q }
+
+    pub found : e < first + m → e ≡ firstFail (goodEffect s h) 0 (h .effects)
+    found q = fail-at (goodEffect s h) (h .effects) e (omega (arith, end-inside)) (x .good) (⊎-elim (λ p. absurd (x .bad q p)) (λ p. p) (bool-cases (goodEffect s h e)))
+
+pub arrived : (s : List ℤ) (h : Header) (d : List Bool) (o first : ℕ) (t : List ℕ) → Before s h d → Walk s h o first t → h .operations ≤ o → first ≡ firstFail (goodEffect s h) 0 (h .effects)
+arrived s h d o first t z w l =
+    let e : first ≡ h .effects = w .at ∙ ap (sumBelow (λ k. operation s h k .w3)) (omega (arith, w .here)) ∙ covers s h (z .groups) in
+    fail-none (goodEffect s h) (h .effects) first (omega (arith, e)) (omega (arith, e)) (w .seen .good)

@@ -29,16 +29,16 @@ starts-at : (s : List ℤ) (h : Header) (i : ℕ) → goodOperation s h i ≡ tr
 unfolding goodOperation recordAt
 starts-at s h i p = let q = simp tests at p in q .0 .0 .0 .0 .1
 
-few-outcomes : (s : List ℤ) (h : Header) (i : ℕ) → goodOperation s h i ≡ true → operation s h i .w4 ≤ 8
+pub few-outcomes : (s : List ℤ) (h : Header) (i : ℕ) → goodOperation s h i ≡ true → operation s h i .w4 ≤ 8
 unfolding goodOperation
 few-outcomes s h i p = let q = simp tests at p in q .0 .1
 
-covers : (s : List ℤ) (h : Header) → goodGroups s h ≡ true → sumBelow (λ k. operation s h k .w3) (h .operations) ≡ h .effects
+pub covers : (s : List ℤ) (h : Header) → goodGroups s h ≡ true → sumBelow (λ k. operation s h k .w3) (h .operations) ≡ h .effects
 unfolding goodGroups goodGroup recordAt
 covers s h p = let q = simp tests at p in q .0 .0 .1
 
 module _ (s : List ℤ) (h : Header) (groups : goodGroups s h ≡ true) (good : (k : ℕ) → k < h .operations → goodOperation s h k ≡ true) where
-  starts : (i : ℕ) → i < h .operations → operation s h i .w2 ≡ sumBelow (λ k. operation s h k .w3) i
+  pub starts : (i : ℕ) → i < h .operations → operation s h i .w2 ≡ sumBelow (λ k. operation s h k .w3) i
   starts i l = starts-at s h i (good i l)
 
   pub belongs : (o e : ℕ) → o < h .operations → operation s h o .w2 ≤ e → e < effectsEnd s h o → operationOf s h e ≡ o
@@ -106,8 +106,10 @@ module _ (s : List ℤ) (h : Header) (groups : goodGroups s h ≡ true) (good : 
     where
       back : suc j - 1 ≡ j
       back = omega arith
+
       mono : operationOf s h j ≤ operationOf s h (suc j)
       mono = unfold operationOf in holder-mono (λ k. operation s h k .w2) (λ k. operation s h k .w3) (h .operations) j (suc j) (omega arith)
+
       go : (b : Bool) → eqb (suc j) (operation s h (operationOf s h (suc j)) .w2) ≡ b → stampOf s h j ≤ stampOf s h (suc j)
       go true e =
           let z = outcome-zero _ _ _ _ (rw e at p) in
@@ -150,6 +152,7 @@ module _ (s : List ℤ) (h : Header) (x S : ℕ) (positive : 0 < S) where
     where
       none : (stampOf s h k ≡ S → ⊥) → anyBelow hit k ≡ false
       none n = none-any hit k (λ j l. rw (ne-eqb (stampOf s h j) S (λ e. n (omega (arith, o k j (omega arith) (omega arith), m k (omega arith), e)))))
+
       go : anyBelow hit k ≡ eqb (lastStamp s h x k) S → Dec (sourceOf (effect s h k) ≡ x) → Dec (stampOf s h k ≡ S) → (anyBelow hit k || hit k) ≡ eqb (cond (eqb (sourceOf (effect s h k)) x) (stampOf s h k) (lastStamp s h x k)) S
       go ih (yes a) (yes b) = rw (eq-eqb (sourceOf (effect s h k)) x a, eq-eqb (stampOf s h k) S b) (or-true (anyBelow hit k))
       go ih (yes a) (no b) = rw (eq-eqb (sourceOf (effect s h k)) x a, ne-eqb (stampOf s h k) S b, none b)
@@ -161,15 +164,16 @@ module _ (s : List ℤ) (h : Header) (x S : ℕ) (positive : 0 < S) where
 
 -- two effects have one source within one outcome exactly if stamp and source number agree
 pub same-source : (s : List ℤ) (h : Header) (e j : ℕ) → outcome s h j < 8 → outcome s h e < 8 → effect s h j .w1 < 16 → effect s h e .w1 < 16
-  → sameSource s h e j ≡ (eqb (stampOf s h j) (stampOf s h e) && eqb (sourceOf (effect s h j)) (sourceOf (effect s h e)))
+    → sameSource s h e j ≡ (eqb (stampOf s h j) (stampOf s h e) && eqb (sourceOf (effect s h j)) (sourceOf (effect s h e)))
 unfolding sameSource
 same-source s h e j a b c d = same-tests _ _ to from
   where
     to : (eqb (operationOf s h j) (operationOf s h e) && eqb (outcome s h j) (outcome s h e) && eqb (effect s h j .w0) (effect s h e .w0) && eqb (effect s h j .w1) (effect s h e .w1)) ≡ true
-      → (eqb (stampOf s h j) (stampOf s h e) && eqb (sourceOf (effect s h j)) (sourceOf (effect s h e))) ≡ true
+        → (eqb (stampOf s h j) (stampOf s h e) && eqb (sourceOf (effect s h j)) (sourceOf (effect s h e))) ≡ true
     to p = let q = simp tests at p in rw (eq-eqb (stampOf s h j) (stampOf s h e) (omega (arith, q)), eq-eqb (sourceOf (effect s h j)) (sourceOf (effect s h e)) (omega (arith, q)))
+
     from : (eqb (stampOf s h j) (stampOf s h e) && eqb (sourceOf (effect s h j)) (sourceOf (effect s h e))) ≡ true
-      → (eqb (operationOf s h j) (operationOf s h e) && eqb (outcome s h j) (outcome s h e) && eqb (effect s h j .w0) (effect s h e .w0) && eqb (effect s h j .w1) (effect s h e .w1)) ≡ true
+        → (eqb (operationOf s h j) (operationOf s h e) && eqb (outcome s h j) (outcome s h e) && eqb (effect s h j .w0) (effect s h e .w0) && eqb (effect s h j .w1) (effect s h e .w1)) ≡ true
     from p =
         let q = simp tests at p in
         rw (eq-eqb (operationOf s h j) (operationOf s h e) (omega (arith, q .0)), eq-eqb (outcome s h j) (outcome s h e) (omega (arith, q .0)), eq-eqb (effect s h j .w0) (effect s h e .w0) (omega (arith, q .1)), eq-eqb (effect s h j .w1) (effect s h e .w1) (omega (arith, q .1)))

@@ -9,11 +9,14 @@ ghost use Rattle.tables.specs.Scan.{firstFail};
 ghost use Rattle.sheet_states.specs.Flags.{placeOf, Small, Declared};
 ghost use Rattle.records.specs.Operations.{goodEffect};
 ghost use Rattle.sheet_effects.specs.Stamps.{sourceOf, Before, Group, Seen, Stretch};
-
 use layout::Header;
-use records::{good_change, good_outcome};
+use records::good_change;
+use records::good_outcome;
 use sheet_states::place_of;
-use words::{number, record_at, unused, Record};
+use words::Record;
+use words::number;
+use words::record_at;
+use words::unused;
 
 // Whether the transition is declared, and the outcome with this stamp has no effect from this state of this entity yet.
 fn fresh(declared: &[bool], seen: &[usize], r: Record, stamp: usize) -> bool
@@ -26,7 +29,16 @@ fn fresh(declared: &[bool], seen: &[usize], r: Record, stamp: usize) -> bool
 }
 
 // The effects of operation o.
-fn check_group(s: &[i64], h: Header, o: usize, first: usize, end: usize, outcomes: usize, declared: &[bool], seen: &mut [usize]) -> usize
+fn check_group(
+    s: &[i64],
+    h: Header,
+    o: usize,
+    first: usize,
+    end: usize,
+    outcomes: usize,
+    declared: &[bool],
+    seen: &mut [usize],
+) -> usize
     requires { ⌜ Before (now s) h (now declared) × Group (now s) h o first end outcomes × Seen (now s) h first (now seen) ⌝ }
     ensures { λ e. ⌜ Stretch (now (s .entry)) h first end e (now (seen .exit)) ⌝ }
 {

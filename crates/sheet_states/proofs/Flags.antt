@@ -60,7 +60,7 @@ none s h t e =
     rw e (record {
       long = length-replicate 8192 false;
       flags = λ r a. getD-replicate 8192 (placeOf r) false false (omega (arith, a)) ∙ sym (any-zero (λ j. sameChange (transition s h j) r));
-      good = λ j l. absurd (omega arith)
+      good = λ j l. absurd (omega arith);
     })
 
 pub more : (s : List ℤ) (h : Header) (k : ℕ) (t : List Bool) → Declared s h k t → goodTransition s h k ≡ true → Small (transition s h k) → Declared s h (k + 1) (set t (placeOf (transition s h k)) true)
@@ -69,7 +69,7 @@ more s h k t d g a =
     record {
       long = length-set t (placeOf (transition s h k)) true ∙ d .long;
       flags = λ r b. rw (any-more (λ j. sameChange (transition s h j) r) k) (go r b (ℕ-discrete (placeOf r) (placeOf (transition s h k))));
-      good = extend-one (λ (j : ℕ). goodTransition s h j ≡ true) k (d .good) g
+      good = extend-one (λ (j : ℕ). goodTransition s h j ≡ true) k (d .good) g;
     }
   where
     go : (r : Record) → Small r → Dec (placeOf r ≡ placeOf (transition s h k)) → getD (set t (placeOf (transition s h k)) true) (placeOf r) false ≡ (declared s h k r || sameChange (transition s h k) r)
@@ -84,7 +84,7 @@ kept t u l e = rw e (l ∙ sym (length-replicate 8192 false))
 
 -- what a turn of the loop computes
 module _ (s : List ℤ) (h : Header) (k : ℕ) (t : List Bool) (d : Declared s h k t) {base : ℕ} {r : Record} {a b : Bool}
-  (eb : base ≡ firstTransition h) (er : r ≡ recordAt s (base + k)) (ea : a ≡ goodChange s h r) (eu : b ≡ unused 3 r) where
+    (eb : base ≡ firstTransition h) (er : r ≡ recordAt s (base + k)) (ea : a ≡ goodChange s h r) (eu : b ≡ unused 3 r) where
   is : r ≡ transition s h k
   is = er ∙ rw eb
 

@@ -10,10 +10,12 @@ ghost use Rattle.layout.specs.Sized.{Sized};
 ghost use Rattle.layout.specs.Tables.{entity};
 ghost use Rattle.records.specs.Entities.{goodEntity, goodTransition};
 ghost use Rattle.sheet_states.specs.Flags.{placeOf, Small, Declared};
-
 use layout::Header;
-use records::{good_change, good_entity};
-use words::{record_at, unused, Record};
+use records::good_change;
+use records::good_entity;
+use words::Record;
+use words::record_at;
+use words::unused;
 
 pub fn check_entities(s: &[i64], h: Header) -> usize
     requires { ⌜ Sized (now s) h ⌝ }

@@ -59,8 +59,10 @@ same-length-2 : tie.Need-same-length-2 Inv-loop μ-loop
 same-length-2 c = kept (c .before .loop .declared) _ (c .before .loop .inv .1 .long) (c .before .before .before .before .pre .2)
 
 returns-2 : tie.Need-returns-2 Inv-loop μ-loop
-returns-2 c =     (fail-none (goodTransition (c .before .before .before .before .args .s .now) (c .before .before .before .before .args .h)) _ _ (c .before .loop .inv .0) (c .loop-test .left) (c .before .loop .inv .1 .good),
-    λ l. subst (λ (n : ℕ). Declared (c .before .before .before .before .args .s .now) (c .before .before .before .before .args .h) n (c .before .loop .declared)) (omega arith) (c .before .loop .inv .1))
+returns-2 c = (
+  fail-none (goodTransition (c .before .before .before .before .args .s .now) (c .before .before .before .before .args .h)) _ _ (c .before .loop .inv .0) (c .loop-test .left) (c .before .loop .inv .1 .good),
+  λ l. subst (λ (n : ℕ). Declared (c .before .before .before .before .args .s .now) (c .before .before .before .before .args .h) n (c .before .loop .declared)) (omega arith) (c .before .loop .inv .1),
+)
 
 pub check-transitions-spec : {M : Type 1} → statement M
 check-transitions-spec =
