@@ -1,0 +1,68 @@
+-- `sheet_flows::check_routes` meets its contract. Assumes nothing.
+use Rattle.sheet_flows.proofs.Routes.{Walk, set-out, room, end-inside, at-step, onward, found, arrived}
+use native.Mathlib.Omega.{arith}
+use Prim.Native.Nat.{_-_}
+use borrow.Author.Needs.{needs}
+use Rattle.sheet_flows.proofs.check_routes.Statement.{statement}
+use Rattle.sheet_flows.proofs.check_routes.Tie as tie
+
+abbrev Inv-loop : tie.InvT-loop
+Inv-loop s h base n c₀ k₀ i₀ c k i = Walk s h i k c
+
+abbrev μ-loop : tie.MeasureT-loop
+μ-loop s h base n c₀ k₀ i₀ c k i = n - i
+
+first-step-requires : tie.Need-first-step-requires Inv-loop μ-loop
+first-step-requires c κs = search needs
+
+loop-holds : tie.Need-loop-holds Inv-loop μ-loop
+loop-holds c = set-out _ _
+
+advance-requires : tie.Need-advance-requires Inv-loop μ-loop
+advance-requires c κs = room _ _ _ _ _ (c .before .before .before .pre) (c .before .loop .inv) (c .loop-test .taken)
+
+add-number : tie.Need-add-number Inv-loop μ-loop
+add-number c = omega (arith, c .before .before .before .before .pre .sized .limits, c .before .before .before .before .pre .sized .long, c .before .before .before .first-step .ensures)
+
+number-requires : tie.Need-number-requires Inv-loop μ-loop
+number-requires c κs = (omega arith, omega (arith, c .before .before .before .before .pre .sized .limits, c .before .before .before .before .pre .sized .long, c .before .before .before .first-step .ensures))
+
+add-end : tie.Need-add-end Inv-loop μ-loop
+add-end c = omega (arith, end-inside _ _ _ _ _ (c .before .before .before .before .before .pre) (c .before .before .before .loop .inv) (c .before .before .loop-test .taken) (c .before .advance .ensures) (c .before .before .before .before .first-step .ensures) (c .number .ensures), c .before .before .before .before .before .pre .sized .limits .routes)
+
+check-group-requires : tie.Need-check-group-requires Inv-loop μ-loop
+check-group-requires c κs = (c .before .before .before .before .before .pre, at-step _ _ _ _ _ (c .before .before .before .before .before .pre) (c .before .before .before .loop .inv) (c .before .before .loop-test .taken) (c .before .advance .ensures) (c .before .before .before .before .first-step .ensures) (c .number .ensures))
+
+returns : tie.Need-returns Inv-loop μ-loop
+returns c = found _ _ _ _ _ (c .before .before .before .before .before .before .before .pre) (c .before .before .before .before .before .loop .inv) (c .before .before .before .before .loop-test .taken) (c .before .before .before .advance .ensures) (c .before .before .before .before .before .before .first-step .ensures) (c .before .before .number .ensures) (c .before .check-group .ensures) (c .if1 .taken)
+
+add-i : tie.Need-add-i Inv-loop μ-loop
+add-i c = search needs
+
+loop-less : tie.Need-loop-less Inv-loop μ-loop
+loop-less c = search needs
+
+loop-again : tie.Need-loop-again Inv-loop μ-loop
+loop-again c = onward _ _ _ _ _ (c .before .before .before .before .before .before .before .pre) (c .before .before .before .before .before .loop .inv) (c .before .before .before .before .loop-test .taken) (c .before .before .before .advance .ensures) (c .before .before .before .before .before .before .first-step .ensures) (c .before .before .number .ensures) (c .before .check-group .ensures) (c .if1 .left)
+
+returns-2 : tie.Need-returns-2 Inv-loop μ-loop
+returns-2 c = arrived _ _ _ _ _ (c .before .before .before .pre) (c .before .loop .inv) (c .loop-test .left)
+
+pub check-routes-spec : {M : Type 1} → statement M
+check-routes-spec =
+    tie.close
+    (tie.spec
+    Inv-loop
+    μ-loop
+    first-step-requires
+    loop-holds
+    advance-requires
+    add-number
+    number-requires
+    add-end
+    check-group-requires
+    returns
+    add-i
+    loop-less
+    loop-again
+    returns-2)
