@@ -1,7 +1,7 @@
 -- What the scan of the nodes keeps in its arrays.
 -- Assumes nothing.
 use mathlib.Core.Path.{_≡_}
-use mathlib.Core.Bool.{Bool, true, false, cond}
+use mathlib.Core.Bool.{Bool, true, false, cond, _&&_}
 use mathlib.Core.List.{List}
 use Prim.Native.Nat.{ℕ, _+_, _<_, max}
 use lib.IntN.{ℤ, pos}
@@ -9,15 +9,17 @@ use lib.Dec.{ltb}
 use lib.ListN.{length, getD, replicate}
 use Rattle.tables.specs.Table.{grown, entry}
 use Rattle.signed.specs.Words.{bounded}
+use Rattle.words.specs.declared.Record.{Record}
 use Rattle.words.specs.Record.{word}
 use Rattle.layout.specs.declared.Header.{Header}
 use Rattle.layout.specs.Tables.{fact, node}
 use Rattle.node.specs.declared.Kind.{Kind}
 use Rattle.node.specs.declared.Kind.the-variants.{IntLiteral, BoolLiteral, EnumLiteral, Fact, Sum, Difference, Product, Comparison, Verdict, And, Or, Not, Unknown}
 use Rattle.node.specs.declared.range.Range.{Range}
-use Rattle.node.specs.Types.{factType}
-use Rattle.node.specs.Ranges.{span}
-use Rattle.records.specs.Nodes.{nodeKind, leftOf, rightOf, typeOf, rangeStep, namedByNodes, goodNode}
+use Rattle.node.specs.Kinds.{hasLeft, hasRight, left, right}
+use Rattle.node.specs.Types.{factType, goodTypes}
+use Rattle.node.specs.Ranges.{span, goodSpan}
+use Rattle.records.specs.Nodes.{nodeKind, leftOf, rightOf, typeOf, rangeStep, namedByNodes, goodChildren, goodNode}
 
 -- the range and the type of fact f, where there is one
 abbrev pub factSpan : List ℤ → Header → ℕ → Range
@@ -63,6 +65,13 @@ Cited And rule = Unit {0}
 Cited Or rule = Unit {0}
 Cited Not rule = Unit {0}
 Cited Unknown rule = Unit {0}
+
+-- the tests of a node whose words are good, from the arrays
+abbrev pub fitsTests : ℕ → Kind → Record → Range → List ℕ → List Bool → Bool
+fitsTests n k r x types named =
+    goodChildren n (hasLeft k) (left k r) (getD named (left k r) false) (hasRight k) (right k r) (getD named (right k r) false)
+    && goodTypes k (r .w1) (getD types (left k r) 0) (getD types (right k r) 0)
+    && goodSpan x
 
 -- every entry of the arrays of lows and highs lies in −M..M
 pub record Bounds (lows highs : List ℤ) : Type 0 where

@@ -7,6 +7,7 @@ ghost use lib.IntN.{pos};
 ghost use lib.Dec.{ltb};
 ghost use lib.ListN.{length, getD, replicate};
 ghost use Rattle.tables.specs.Scan.{firstFail};
+ghost use Rattle.tables.specs.Table.{marked};
 ghost use Rattle.words.specs.Record.{word};
 ghost use Rattle.layout.specs.Sized.{Sized};
 ghost use Rattle.layout.specs.Tables.{fact};
@@ -15,7 +16,7 @@ ghost use Rattle.node.specs.Types.{goodTypes, typeFrom, Set};
 ghost use Rattle.node.specs.Ranges.{span, rangeFrom, Factor};
 ghost use Rattle.records.specs.Facts.{goodFact};
 ghost use Rattle.records.specs.Nodes.{goodChildren, goodNode};
-ghost use Rattle.sheet_nodes.specs.Arrays.{factSpan, factCode, topFrom, Cited, Bounds, Empty, Filled};
+ghost use Rattle.sheet_nodes.specs.Arrays.{factSpan, factCode, topFrom, fitsTests, Cited, Bounds, Empty, Filled};
 
 use layout::Header;
 use node::range::{good_span, range_from, span, Range};
@@ -114,4 +115,51 @@ fn node_top(tops: &[usize], k: Kind, r: Record) -> usize
     ensures { λ t. ⌜ t ≡ topFrom k (r .w1) (getD (now (tops .entry)) (left k r) 0) (getD (now (tops .entry)) (right k r) 0) ⌝ }
 {
     top_from(k, r.w1, entry(tops, left(k, r)), entry(tops, right(k, r)))
+}
+
+// Whether node n, whose words are good, has good children, types and range.
+fn fits(n: usize, k: Kind, r: Record, x: Range, types: &[usize], named: &[bool]) -> bool
+    ensures { λ b. ⌜ b ≡ fitsTests n k r x (now (types .entry)) (now (named .entry)) ⌝ }
+{
+    linked(named, n, k, r) & typed(types, k, r) & good_span(x)
+}
+
+// Marks the children of a node as named.
+fn name_children(named: &mut [bool], k: Kind, r: Record)
+    ensures { λ _. ⌜ now (named .exit) ≡ marked (hasRight k) (right k r) (marked (hasLeft k) (left k r) (now (named .entry))) ⌝ }
+{
+    mark(named, has_left(k), left(k, r));
+    mark(named, has_right(k), right(k, r));
+}
+
+pub fn check_nodes(s: &[i64], h: Header, lows: &mut [i64], highs: &mut [i64], types: &mut [usize], tops: &mut [usize], named: &mut [bool]) -> usize
+    requires { ⌜ Sized (now s) h × ((j : ℕ) → j < h .facts → goodFact (now s) j ≡ true) × Empty (now lows) (now highs) (now types) (now tops) (now named) ⌝ }
+    ensures { λ n. ⌜ n ≡ firstFail (goodNode (now (s .entry)) h) 0 (h .nodes) ⌝ }
+    ensures { λ n. ⌜ (h .nodes ≤ n → Filled (now (s .entry)) h (h .nodes) (now (lows .exit)) (now (highs .exit)) (now (types .exit)) (now (tops .exit)) (now (named .exit))) ⌝ }
+{
+    let size = h.nodes;
+    let mut n = 0;
+    while n < size {
+        let at = h.facts + n;
+        let r = record_at(s, at);
+        let k = kind_of(r.w0);
+        if !good_words(h, k, r, word(s, at, 1)) {
+            return n;
+        }
+        let x = node_range(s, h, at, k, r, lows, highs);
+        if !fits(n, k, r, x, types, named) {
+            return n;
+        }
+        let low = x.low;
+        let high = x.high;
+        let kind = node_type(s, h, k, r);
+        let top = node_top(tops, k, r);
+        lows[n] = low;
+        highs[n] = high;
+        types[n] = kind;
+        tops[n] = top;
+        name_children(named, k, r);
+        n += 1;
+    }
+    n
 }
