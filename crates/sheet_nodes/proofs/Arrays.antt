@@ -4,7 +4,7 @@ use mathlib.Core.Path.{_≡_, refl, sym, subst, ap, ap₂, _∙_}
 use mathlib.Core.Bool.{Bool, true, false, not, cond, _&&_, _||_}
 use mathlib.Core.List.{List}
 use mathlib.Core.Logic.{_⊎_, inl, inr, ⊎-elim}
-use Prim.Native.Nat.{ℕ, zero, suc, _+_, _≤_, _<_}
+use Prim.Native.Nat.{ℕ, zero, suc, _+_, _^_, _≤_, _<_}
 use lib.IntN.{ℤ, pos}
 use lib.Dec.{eqb, ltb}
 use lib.ListN.{length, getD, set, replicate, length-replicate, getD-replicate, length-set, List·getD-eq-default}
@@ -20,7 +20,11 @@ use Rattle.tables.proofs.Scans.{any-more, any-zero, extend-one, below-suc}
 use Rattle.tables.proofs.Scanned.{fail-at, fail-none}
 use Rattle.tables.proofs.Grown.{length-grown, grown-at}
 use Rattle.tables.proofs.Entries.{stored, marked-flags, length-marked}
+use mir.Syntax.{w64}
+use mir.Val.{toZ, ofZ}
+use lib.Signed.{mag}
 use Rattle.signed.specs.Words.{bounded, num}
+use Rattle.signed.proofs.Fit.{back-of}
 use Rattle.words.specs.declared.Record.{Record}
 use Rattle.words.specs.Record.{word, recordAt}
 use Rattle.layout.specs.declared.Header.{Header}
@@ -42,11 +46,12 @@ use Rattle.sheet_nodes.proofs.Parts.{factor, set-small, cited, range-fa
 
 module _ {A B : Type 0} (f : (ℕ → A) → ℕ → A) (z : A) (p : A → B) (d : B) (pz : p z ≡ d) where
   pub table-more : (t : List B) (n : ℕ) (v : B) → n < length t → ((j : ℕ) → getD t j d ≡ p (getD (grown f z n) j z)) → v ≡ p (entry f z n)
-    → (j : ℕ) → getD (set t n v) j d ≡ p (getD (grown f z (n + 1)) j z)
+      → (j : ℕ) → getD (set t n v) j d ≡ p (getD (grown f z (n + 1)) j z)
   table-more t n v l h e j = go (ℕ-discrete j n) (decLt j n)
     where
       past : (m : ℕ) → m ≤ j → getD (grown f z m) j z ≡ z
       past m q = List·getD-eq-default (grown f z m) z (rw (length-grown f z m) q)
+
       go : Dec (j ≡ n) → Dec (j < n) → getD (set t n v) j d ≡ p (getD (grown f z (n + 1)) j z)
       go (yes x) q = rw x (getD-set-same t n v d l ∙ e ∙ ap p (sym (grown-at f z (n + 1) n (omega arith))))
       go (no x) (yes q) = getD-set-other t n j v d x ∙ h j ∙ ap p (grown-at f z n j q ∙ sym (grown-at f z (n + 1) j (omega arith)))
@@ -69,13 +74,14 @@ or-assoc false b c = refl
 -- ---- tests that do not look at what is missing
 
 children-same : (n : ℕ) (l : Bool) (a : ℕ) (x x′ r : Bool) (b : ℕ) (y y′ : Bool) → (a < n → x ≡ x′) → (b < n → y ≡ y′)
-  → goodChildren n l a x r b y ≡ goodChildren n l a x′ r b y′
+    → goodChildren n l a x r b y ≡ goodChildren n l a x′ r b y′
 unfolding goodChildren
 children-same n l a x x′ r b y y′ f g = ap₂ _&&_ (ap (λ t. not l || t) (first (decLt a n))) (ap (λ t. not r || t) (second (decLt b n)))
   where
     first : Dec (a < n) → (ltb a n && not x) ≡ (ltb a n && not x′)
     first (yes q) = rw (f q)
     first (no q) = rw (le-ltb a n (omega arith))
+
     second : Dec (b < n) → (ltb b n && not y && not (eqb a b)) ≡ (ltb b n && not y′ && not (eqb a b))
     second (yes q) = rw (g q)
     second (no q) = rw (le-ltb b n (omega arith))
@@ -118,7 +124,7 @@ begin s h e =
       type = λ j l. absurd (omega arith);
       top = table-none (topStep s h) 0 (λ x. x) 0 refl 1024;
       name = λ a l. getD-replicate 1024 a false false l ∙ sym (unfold namedByNodes in any-zero (λ j. nodeNames s h j a));
-      good = λ j l. absurd (omega arith)
+      good = λ j l. absurd (omega arith);
     })
 
 -- ---- one node
@@ -144,6 +150,7 @@ module _ (s : List ℤ) (h : Header) (n : ℕ) {lows highs : List ℤ} {types to
     where
       good-both : goodSpan (rangeOf s h j) ≡ true → (bounded (rangeOf s h j .low) ≡ true) × (bounded (rangeOf s h j .high) ≡ true)
       good-both p = unfold goodSpan in (and-left _ (bounded (rangeOf s h j .high)) p, and-right (bounded (rangeOf s h j .low)) _ p)
+
       go : Dec (j < n) → (bounded (table j .low) ≡ true) × (bounded (table j .high) ≡ true)
       go (yes q) = rw (grown-at (rangeStep s h) zero-span n j q) (good-both (span-good s h j (f .good j q)))
       go (no q) = rw (List·getD-eq-default (grown (rangeStep s h) zero-span n) zero-span {n = j} (rw (length-grown (rangeStep s h) zero-span n) (omega arith))) (zero-bounded, zero-bounded)
@@ -167,12 +174,15 @@ module _ (s : List ℤ) (h : Header) (n : ℕ) {lows highs : List ℤ} {types to
     where
       same : goodChildren n (hasLeft (nodeKind s h n)) (leftOf s h n) (getD named (leftOf s h n) false) (hasRight (nodeKind s h n)) (rightOf s h n) (getD named (rightOf s h n) false) ≡ children
       same = children-same n (hasLeft (nodeKind s h n)) (leftOf s h n) _ _ (hasRight (nodeKind s h n)) (rightOf s h n) _ _ (λ q. f .name (leftOf s h n) (omega arith)) (λ q. f .name (rightOf s h n) (omega arith))
+
       array-types : Bool
       array-types = goodTypes (nodeKind s h n) (node s h n .w1) (getD types (leftOf s h n) 0) (getD types (rightOf s h n) 0)
+
       yes′ : children ≡ true → (children && array-types && goodSpan x) ≡ (children && types-of && goodSpan x)
       yes′ e =
           rw (types-same (nodeKind s h n) (node s h n .w1) (getD types (leftOf s h n) 0) (typeOf s h (leftOf s h n)) (getD types (rightOf s h n) 0) (typeOf s h (rightOf s h n))
           (λ q. f .type (leftOf s h n) (left-below n _ _ _ _ _ _ e q)) (λ q. f .type (rightOf s h n) (right-below n _ _ _ _ _ _ e q)))
+
       no′ : children ≡ false → (children && array-types && goodSpan x) ≡ (children && types-of && goodSpan x)
       no′ e = rw e
 
@@ -224,11 +234,11 @@ module _ (s : List ℤ) (h : Header) (n : ℕ) {lows highs : List ℤ} {types to
                 ∙ or-assoc (anyBelow (λ j. nodeNames s h j a) n) (hasLeft k && eqb (left k r) a) (hasRight k && eqb (right k r) a)
                 ∙ rw (any-more (λ j. nodeNames s h j a) n, kind-is, er)
 
-            pub again : {t u : ℕ} {v : List Bool} → t ≡ typeFrom k r (factCode s h (r .w1)) → u ≡ topFrom k (r .w1) (getD tops (left k r) 0) (getD tops (right k r) 0)
-              → v ≡ marked (hasRight k) (right k r) (marked (hasLeft k) (left k r) named)
-              → Filled s h (n + 1) (set lows n (x .low)) (set highs n (x .high)) (set types n t) (set tops n u) v
-            again et eu ev =
-                rw ev (record {
+            pub again : {lo hi : ℤ} {t u : ℕ} {v : List Bool} → lo ≡ x .low → hi ≡ x .high → t ≡ typeFrom k r (factCode s h (r .w1)) → u ≡ topFrom k (r .w1) (getD tops (left k r) 0) (getD tops (right k r) 0)
+                → v ≡ marked (hasRight k) (right k r) (marked (hasLeft k) (left k r) named)
+                → Filled s h (n + 1) (set lows n lo) (set highs n hi) (set types n t) (set tops n u) v
+            again el eh et eu ev =
+                rw (ev, el, eh) (record {
                   low-long = length-set lows n (x .low) ∙ f .low-long;
                   high-long = length-set highs n (x .high) ∙ f .high-long;
                   type-long = length-set types n _ ∙ f .type-long;
@@ -239,24 +249,52 @@ module _ (s : List ℤ) (h : Header) (n : ℕ) {lows highs : List ℤ} {types to
                   type = stored (typeOf s h) 0 types n _ small-type (f .type) (et ∙ type-is);
                   top = table-more (topStep s h) 0 (λ y. y) 0 refl tops n _ small-top (f .top) (eu ∙ top-is);
                   name = names-now;
-                  good = extend-one (λ (j : ℕ). goodNode s h j ≡ true) n (f .good) good-now
+                  good = extend-one (λ (j : ℕ). goodNode s h j ≡ true) n (f .good) good-now;
                 })
               where
                 few : n < 1024
                 few = omega (arith, z .limits .nodes)
+
                 small-low : n < length lows
                 small-low = omega (arith, f .low-long, few)
+
                 small-high : n < length highs
                 small-high = omega (arith, f .high-long, few)
+
                 small-type : n < length types
                 small-type = omega (arith, f .type-long, few)
+
                 small-top : n < length tops
                 small-top = omega (arith, f .top-long, few)
+
                 type-is : typeFrom k r (factCode s h (r .w1)) ≡ typeOf s h n
                 type-is = type-fact s h k r (word s (h .facts + n) 1) words ∙ unfold typeOf in rw (kind-is, er)
+
                 top-is : topFrom k (r .w1) (getD tops (left k r) 0) (getD tops (right k r) 0) ≡ entry (topStep s h) 0 n
                 top-is = unfold entry topStep in rw (f .top (left k r), f .top (right k r), kind-is, er)
 
 pub finish : (s : List ℤ) (h : Header) (n : ℕ) {lows highs : List ℤ} {types tops : List ℕ} {named : List Bool} → Filled s h n lows highs types tops named → n ≤ h .nodes → h .nodes ≤ n
-  → Filled s h (h .nodes) lows highs types tops named
+    → Filled s h (h .nodes) lows highs types tops named
 finish s h n {lows} {highs} {types} {tops} {named} f a b = subst (λ (m : ℕ). Filled s h m lows highs types tops named) (omega arith) f
+
+-- what the test of a node's words ensures, at the word itself
+pub words-told : (h : Header) (k : Kind) (r : Record) (w v : ℤ) {g : Bool} → g ≡ goodWords h k r (toZ w64 (ofZ w64 w)) → mag w < 2 ^ 63 → w ≡ v → g ≡ goodWords h k r v
+words-told h k r w v e m q = e ∙ ap (goodWords h k r) (back-of w m ∙ q)
+
+-- how long the empty arrays are
+pub record Sizes (lows highs : List ℤ) (types tops : List ℕ) (named : List Bool) : Type 0 where
+  pub low : length lows ≡ 1024
+  pub high : length highs ≡ 1024
+  pub type : length types ≡ 1024
+  pub top : length tops ≡ 1024
+  pub name : length named ≡ 1024
+
+pub sizes : {lows highs : List ℤ} {types tops : List ℕ} {named : List Bool} → Empty lows highs types tops named → Sizes lows highs types tops named
+sizes e =
+    rw (e .low, e .high, e .type, e .top, e .name) (record {
+      low = length-replicate 1024 (pos 0);
+      high = length-replicate 1024 (pos 0);
+      type = length-replicate {A = ℕ} 1024 0;
+      top = length-replicate {A = ℕ} 1024 0;
+      name = length-replicate 1024 false;
+    })

@@ -88,7 +88,7 @@ cited h Unknown r v l p = tt
 
 -- only a fact node looks at the fact, and then the fact exists
 pub range-fact : (s : List ℤ) (h : Header) (k : Kind) (r : Record) (v u n : ℤ) (op : ℕ) (x y : Range) → goodWords h k r v ≡ true
-  → rangeFrom k op u (factSpan s h (r .w1)) n x y ≡ rangeFrom k op u (span (word s (r .w1) 1) (word s (r .w1) 2)) n x y
+    → rangeFrom k op u (factSpan s h (r .w1)) n x y ≡ rangeFrom k op u (span (word s (r .w1) 1) (word s (r .w1) 2)) n x y
 unfolding goodWords rangeFrom
 range-fact s h IntLiteral r v u n op x y p = refl
 range-fact s h BoolLiteral r v u n op x y p = refl
@@ -105,7 +105,7 @@ range-fact s h Not r v u n op x y p = refl
 range-fact s h Unknown r v u n op x y p = refl
 
 pub type-fact : (s : List ℤ) (h : Header) (k : Kind) (r : Record) (v : ℤ) → goodWords h k r v ≡ true
-  → typeFrom k r (factCode s h (r .w1)) ≡ typeFrom k r (factType (fact s (r .w1)))
+    → typeFrom k r (factCode s h (r .w1)) ≡ typeFrom k r (factType (fact s (r .w1)))
 unfolding goodWords
 type-fact s h IntLiteral r v p = refl
 type-fact s h BoolLiteral r v p = refl

@@ -17,13 +17,29 @@ ghost use Rattle.node.specs.Ranges.{span, rangeFrom, Factor};
 ghost use Rattle.records.specs.Facts.{goodFact};
 ghost use Rattle.records.specs.Nodes.{goodChildren, goodNode};
 ghost use Rattle.sheet_nodes.specs.Arrays.{factSpan, factCode, topFrom, fitsTests, Cited, Bounds, Empty, Filled};
-
 use layout::Header;
-use node::range::{good_span, range_from, span, Range};
-use node::{fact_type, good_types, good_words, has_left, has_right, kind_of, left, right, type_from, Kind};
+use node::Kind;
+use node::fact_type;
+use node::good_types;
+use node::good_words;
+use node::has_left;
+use node::has_right;
+use node::kind_of;
+use node::left;
+use node::range::Range;
+use node::range::good_span;
+use node::range::range_from;
+use node::range::span;
+use node::right;
+use node::type_from;
 use records::good_children;
-use tables::{entry, flag, mark, word_entry};
-use words::{record_at, word, Record};
+use tables::entry;
+use tables::flag;
+use tables::mark;
+use tables::word_entry;
+use words::Record;
+use words::record_at;
+use words::word;
 
 // Whether the children exist before node n and have not been named.
 fn linked(named: &[bool], n: usize, k: Kind, r: Record) -> bool
@@ -31,7 +47,15 @@ fn linked(named: &[bool], n: usize, k: Kind, r: Record) -> bool
 {
     let a = left(k, r);
     let b = right(k, r);
-    good_children(n, has_left(k), a, flag(named, a), has_right(k), b, flag(named, b))
+    good_children(
+        n,
+        has_left(k),
+        a,
+        flag(named, a),
+        has_right(k),
+        b,
+        flag(named, b),
+    )
 }
 
 // Whether the children have the types that the kind takes.
@@ -59,7 +83,15 @@ fn child_range(lows: &[i64], highs: &[i64], a: usize) -> Range
     span(word_entry(lows, a), word_entry(highs, a))
 }
 
-fn node_range(s: &[i64], h: Header, at: usize, k: Kind, r: Record, lows: &[i64], highs: &[i64]) -> Range
+fn node_range(
+    s: &[i64],
+    h: Header,
+    at: usize,
+    k: Kind,
+    r: Record,
+    lows: &[i64],
+    highs: &[i64],
+) -> Range
     requires { ⌜ Sized (now s) h × (16 + 8 * at + 8 ≤ length (now s)) × Factor k (word (now s) at 2) × Bounds (now lows) (now highs) ⌝ }
     ensures { λ x. ⌜ x ≡ rangeFrom k (r .w1) (word (now (s .entry)) at 1) (factSpan (now (s .entry)) h (r .w1)) (word (now (s .entry)) at 2) (span (getD (now (lows .entry)) (left k r) (pos 0)) (getD (now (highs .entry)) (left k r) (pos 0))) (span (getD (now (lows .entry)) (right k r) (pos 0)) (getD (now (highs .entry)) (right k r) (pos 0))) ⌝ }
 {
@@ -132,7 +164,15 @@ fn name_children(named: &mut [bool], k: Kind, r: Record)
     mark(named, has_right(k), right(k, r));
 }
 
-pub fn check_nodes(s: &[i64], h: Header, lows: &mut [i64], highs: &mut [i64], types: &mut [usize], tops: &mut [usize], named: &mut [bool]) -> usize
+pub fn check_nodes(
+    s: &[i64],
+    h: Header,
+    lows: &mut [i64],
+    highs: &mut [i64],
+    types: &mut [usize],
+    tops: &mut [usize],
+    named: &mut [bool],
+) -> usize
     requires { ⌜ Sized (now s) h × ((j : ℕ) → j < h .facts → goodFact (now s) j ≡ true) × Empty (now lows) (now highs) (now types) (now tops) (now named) ⌝ }
     ensures { λ n. ⌜ n ≡ firstFail (goodNode (now (s .entry)) h) 0 (h .nodes) ⌝ }
     ensures { λ n. ⌜ (h .nodes ≤ n → Filled (now (s .entry)) h (h .nodes) (now (lows .exit)) (now (highs .exit)) (now (types .exit)) (now (tops .exit)) (now (named .exit))) ⌝ }

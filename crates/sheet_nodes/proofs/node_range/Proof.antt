@@ -27,9 +27,11 @@ word-requires-2 : tie.Need-word-requires-2
 word-requires-2 c κs = search needs
 
 range-from-requires : tie.Need-range-from-requires
-range-from-requires c κs =     (rw (back-of (c .word2 .result) (c .word2 .ok), c .word2 .ensures) (c .before .before .before .before .before .before .before .pre .2),
-    rw (c .before .before .before .before .before .child-range .ensures) (child-bounded _ _ _ (c .before .before .before .before .before .before .before .pre .3)),
-    rw (c .before .before .before .child-range2 .ensures) (child-bounded _ _ _ (c .before .before .before .before .before .before .before .pre .3)))
+range-from-requires c κs = (
+  rw (back-of (c .word2 .result) (c .word2 .ok), c .word2 .ensures) (c .before .before .before .before .before .before .before .pre .2),
+  rw (c .before .before .before .before .before .child-range .ensures) (child-bounded _ _ _ (c .before .before .before .before .before .before .before .pre .3)),
+  rw (c .before .before .before .child-range2 .ensures) (child-bounded _ _ _ (c .before .before .before .before .before .before .before .pre .3)),
+)
 
 returns : tie.Need-returns
 returns c = rw (c .range-from .ensures, back-of (c .before .word2 .result) (c .before .word2 .ok), c .before .word2 .ensures, back-of (c .before .before .word .result) (c .before .before .word .ok), c .before .before .word .ensures, c .before .before .before .fact-range .ensures, c .before .before .before .before .child-range2 .ensures, c .before .before .before .before .before .right .ensures, c .before .before .before .before .before .before .child-range .ensures, c .before .before .before .before .before .before .before .left .ensures)
