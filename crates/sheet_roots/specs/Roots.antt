@@ -1,0 +1,45 @@
+-- What the scans of rules, operations and steps read from the nodes' arrays, and the flags of named nodes.
+-- Assumes nothing.
+use mathlib.Core.Path.{_≡_}
+use mathlib.Core.Bool.{Bool, true, false, not, cond, _&&_, _||_}
+use mathlib.Core.List.{List}
+use Prim.Native.Nat.{ℕ, _-_, _<_}
+use lib.IntN.{ℤ}
+use lib.Dec.{leb, ltb, eqb}
+use lib.ListN.{length, getD}
+use Rattle.words.specs.declared.Record.{Record}
+use Rattle.layout.specs.declared.Header.{Header}
+use Rattle.records.specs.Nodes.{typeOf, namedByNodes, goodNode}
+use Rattle.records.specs.Rules.{stratum}
+use Rattle.records.specs.Flows.{goodOperationStep}
+use Rattle.sheet_nodes.specs.Arrays.{topOf}
+
+-- the types of the nodes
+abbrev pub Typed : List ℤ → Header → List ℕ → Type 0
+Typed s h types = (j : ℕ) → j < h .nodes → getD types j 0 ≡ typeOf s h j
+
+-- and the greatest rules that their trees cite
+pub record Known (s : List ℤ) (h : Header) (types tops : List ℕ) : Type 0 where
+  pub type : Typed s h types
+  pub top : (j : ℕ) → j < h .nodes → getD tops j 0 ≡ topOf s h j
+  pub good : (j : ℕ) → j < h .nodes → goodNode s h j ≡ true
+
+-- the flags say which nodes are named
+pub record Names (f : ℕ → Bool) (named : List Bool) : Type 0 where
+  pub long : length named ≡ 1024
+  pub is : (a : ℕ) → a < 1024 → getD named a false ≡ f a
+
+abbrev pub NamedByNodes : List ℤ → Header → ℕ → Bool
+NamedByNodes s h a = namedByNodes s h (h .nodes) a
+
+-- the test of a root from the arrays
+abbrev pub rootTest : Header → ℕ → List ℕ → List Bool → Bool
+rootTest h a types named = ltb a (h .nodes) && eqb (getD types a 0) 0 && not (getD named a false)
+
+-- a tree whose greatest cited rule is top − 1 cites only rules below k, and of a stratum lower than `own`
+unfoldable pub topLower : List ℤ → Header → ℕ → ℕ → ℕ → Bool
+topLower s h k own top = eqb top 0 || leb top k && ltb (stratum s h (top - 1)) own
+
+-- a step by its kind; `rooted` says whether a branch's node can be a root
+abbrev pub kindTest : List ℤ → Header → Record → Bool → Bool
+kindTest s h r rooted = cond (eqb (r .w0) 0) (goodOperationStep s h r) (cond (eqb (r .w0) 1) (rooted && eqb (r .w2) 0 && eqb (r .w4) 2) false)

@@ -1,0 +1,17 @@
+// The scans of the records that name a tree's root: rules, operations and steps.
+ghost use mathlib.Core.Path.{_≡_};
+ghost use Rattle.sheet_roots.specs.Roots.{rootTest};
+
+pub mod operations;
+pub mod rules;
+pub mod steps;
+
+use layout::Header;
+use tables::{entry, flag};
+
+// Whether node a can be a root: it exists, is Bool, and has not been named.
+fn root(h: Header, types: &[usize], named: &[bool], a: usize) -> bool
+    ensures { λ b. ⌜ b ≡ rootTest h a (now (types .entry)) (now (named .entry)) ⌝ }
+{
+    (a < h.nodes) & (entry(types, a) == 0) & !flag(named, a)
+}
