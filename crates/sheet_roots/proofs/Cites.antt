@@ -48,6 +48,7 @@ module _ (s : List ℤ) (h : Header) (k : ℕ) (rising : (i j : ℕ) → i ≤ j
     where
       none : eqb u 0 ≡ true → (eqb (suc t) 0 || leb (suc t) k && ltb (stratum s h (suc t - 1)) (stratum s h k)) ≡ true
       none e = absurd (omega (arith, eqb-true u 0 e))
+
       some : (leb u k && ltb (stratum s h (u - 1)) (stratum s h k)) ≡ true → (eqb (suc t) 0 || leb (suc t) k && ltb (stratum s h (suc t - 1)) (stratum s h k)) ≡ true
       some e =
           let q = simp tests at e in
@@ -68,6 +69,7 @@ module _ (s : List ℤ) (h : Header) (k : ℕ) (rising : (i j : ℕ) → i ≤ j
     where
       back : c + 1 - 1 ≡ c
       back = omega arith
+
       tested : Dec (c < k) → leb (c + 1) k ≡ ltb c k
       tested (yes l) = le-leb (c + 1) k (omega arith) ∙ sym (lt-ltb c k l)
       tested (no l) = lt-leb (c + 1) k (omega arith) ∙ sym (le-ltb c k (omega arith))
@@ -99,13 +101,15 @@ module _ (s : List ℤ) (h : Header) (k : ℕ) (rising : (i j : ℕ) → i ≤ j
       where
         child : ((j : ℕ) → j < m → j < h .nodes → citesLower s h k j ≡ low (topOf s h j)) → (j : ℕ) → j < n → getD (grown (citesStep s h k) true n) j true ≡ low (getD (grown (topStep s h) 0 n) j 0)
         child ih j a = grown-at (citesStep s h k) true n j a ∙ ih j (omega arith) (omega arith) ∙ ap low (sym (grown-at (topStep s h) 0 n j a))
+
         only : (t : Bool) (j : ℕ) → ((j : ℕ) → j < m → j < h .nodes → citesLower s h k j ≡ low (topOf s h j)) → (t ≡ true → j < n)
-          → (not t || getD (grown (citesStep s h k) true n) j true) ≡ (not t || low (getD (grown (topStep s h) 0 n) j 0))
+            → (not t || getD (grown (citesStep s h k) true n) j true) ≡ (not t || low (getD (grown (topStep s h) 0 n) j 0))
         only true j ih a = child ih j (a refl)
         only false j ih a = refl
+
         node-is : ((j : ℕ) → j < m → j < h .nodes → citesLower s h k j ≡ low (topOf s h j))
-          → ((not (isVerdict (nodeKind s h n)) || lower s h k (node s h n .w1)) && (not (hasLeft (nodeKind s h n)) || getD (grown (citesStep s h k) true n) (leftOf s h n) true) && (not (hasRight (nodeKind s h n)) || getD (grown (citesStep s h k) true n) (rightOf s h n) true))
-          ≡ ((not (isVerdict (nodeKind s h n)) || lower s h k (node s h n .w1)) && (not (hasLeft (nodeKind s h n)) || low (getD (grown (topStep s h) 0 n) (leftOf s h n) 0)) && (not (hasRight (nodeKind s h n)) || low (getD (grown (topStep s h) 0 n) (rightOf s h n) 0)))
+            → ((not (isVerdict (nodeKind s h n)) || lower s h k (node s h n .w1)) && (not (hasLeft (nodeKind s h n)) || getD (grown (citesStep s h k) true n) (leftOf s h n) true) && (not (hasRight (nodeKind s h n)) || getD (grown (citesStep s h k) true n) (rightOf s h n) true))
+            ≡ ((not (isVerdict (nodeKind s h n)) || lower s h k (node s h n .w1)) && (not (hasLeft (nodeKind s h n)) || low (getD (grown (topStep s h) 0 n) (leftOf s h n) 0)) && (not (hasRight (nodeKind s h n)) || low (getD (grown (topStep s h) 0 n) (rightOf s h n) 0)))
         node-is ih =
             ap₂ _&&_ (ap (λ t. (not (isVerdict (nodeKind s h n)) || lower s h k (node s h n .w1)) && t) (only (hasLeft (nodeKind s h n)) (leftOf s h n) ih (left-before s h n (good n q))))
             (only (hasRight (nodeKind s h n)) (rightOf s h n) ih (right-before s h n (good n q)))

@@ -37,7 +37,7 @@ begin s h named n =
       here = omega arith;
       is = sym (sum-zero (effectCount s h));
       names = renamed n (λ a. sym (ap (λ t. namedByRules s h (h .rules) a || t) (any-zero (λ j. eqb (operation s h j .w1) a)) ∙ or-false (namedByRules s h (h .rules) a)));
-      good = λ j l. absurd (omega arith)
+      good = λ j l. absurd (omega arith);
     }
 
 name-operation : (s : List ℤ) (h : Header) (k a : ℕ) → (namedByOperations s h k a || (true && eqb (operation s h k .w1) a)) ≡ namedByOperations s h (k + 1) a
@@ -55,7 +55,7 @@ unfolding recordAt
 count-of s h k = refl
 
 module _ (s : List ℤ) (h : Header) (k sum : ℕ) (types : List ℕ) {named : List Bool} (few : h .nodes ≤ 1024) (typed : Typed s h types) (w : Turn s h k sum named) (l : k < h .operations)
-  {base : ℕ} {r : Record} (eb : base ≡ firstOperation h) (er : r ≡ recordAt s (base + k)) where
+    {base : ℕ} {r : Record} (eb : base ≡ firstOperation h) (er : r ≡ recordAt s (base + k)) where
   is : r ≡ operation s h k
   is = er ∙ rw eb
 
@@ -73,13 +73,13 @@ module _ (s : List ℤ) (h : Header) (k sum : ℕ) (types : List ℕ) {named : L
           here = omega arith;
           is = rw (sum-more (effectCount s h) k, w .is, is, count-of s h k);
           names = name-more true (operation s h k .w1) (w .names) (e ∙ rw is) (name-operation s h k);
-          good = extend-one (λ (j : ℕ). goodOperation s h j ≡ true) k (w .good) (sym test ∙ p)
+          good = extend-one (λ (j : ℕ). goodOperation s h j ≡ true) k (w .good) (sym test ∙ p);
         }
 
     pub stop : (m && rooted && eqb (r .w2) sum && leb 1 (r .w3) && leb 1 (r .w4) && leb (r .w4) 8 && u) ≡ false → k ≡ firstFail (goodOperation s h) 0 (h .operations)
     stop p = fail-at (goodOperation s h) (h .operations) k l (w .good) (sym test ∙ p)
 
 pub finish : (s : List ℤ) (h : Header) (k sum : ℕ) {named : List Bool} → Turn s h k sum named → h .operations ≤ k
-  → (k ≡ firstFail (goodOperation s h) 0 (h .operations)) × (h .operations ≤ k → Names (namedByOperations s h (h .operations)) named)
+    → (k ≡ firstFail (goodOperation s h) 0 (h .operations)) × (h .operations ≤ k → Names (namedByOperations s h (h .operations)) named)
 finish s h k sum {named} w l =
     (fail-none (goodOperation s h) (h .operations) k (w .here) l (w .good), λ _. subst (λ (n : ℕ). Names (namedByOperations s h n) named) (omega (arith, w .here)) (w .names))

@@ -47,9 +47,9 @@ chain a b true d e e′ f = rw (f refl)
 chain a b false d e e′ f = rw (and-no (a && b))
 
 module _ (s : List ℤ) (h : Header) (k : ℕ) {types tops : List ℕ} {named : List Bool} (few : h .nodes ≤ 1024) (known : Known s h types tops) (w : Turn s h k named) (l : k < h .rules)
-  {base : ℕ} {r : Record} {rooted risen u cites : Bool} {top : ℕ}
-  (eb : base ≡ firstRule h) (er : r ≡ recordAt s (base + k)) (eo : rooted ≡ rootTest h (r .w1) types named) (et : top ≡ getD tops (r .w1) 0)
-  (ec : cites ≡ topLower s h k (r .w0) top) (ei : risen ≡ (eqb k 0 || leb (stratum s h (k - 1)) (r .w0))) (eu : u ≡ unused 2 r) where
+    {base : ℕ} {r : Record} {rooted risen u cites : Bool} {top : ℕ}
+    (eb : base ≡ firstRule h) (er : r ≡ recordAt s (base + k)) (eo : rooted ≡ rootTest h (r .w1) types named) (et : top ≡ getD tops (r .w1) 0)
+    (ec : cites ≡ topLower s h k (r .w0) top) (ei : risen ≡ (eqb k 0 || leb (stratum s h (k - 1)) (r .w0))) (eu : u ≡ unused 2 r) where
   is : r ≡ rule s h k
   is = er ∙ rw eb
 
@@ -75,7 +75,7 @@ module _ (s : List ℤ) (h : Header) (k : ℕ) {types tops : List ℕ} {named : 
       record {
         here = omega arith;
         names = name-more true (rule s h k .w1) (w .names) (e ∙ rw is) (name-rule s h k);
-        good = extend-one (λ (j : ℕ). goodRule s h j ≡ true) k (w .good) (sym test ∙ p)
+        good = extend-one (λ (j : ℕ). goodRule s h j ≡ true) k (w .good) (sym test ∙ p);
       }
 
   pub stop : (leb (r .w0) 15 && risen && rooted && u && cites) ≡ false → k ≡ firstFail (goodRule s h) 0 (h .rules)

@@ -40,7 +40,7 @@ begin s h named n =
       here = omega arith;
       is = sym (sum-zero (routeCount s h));
       names = renamed n (λ a. sym (ap (λ t. namedByOperations s h (h .operations) a || t) (any-zero (named-by s h a)) ∙ or-false (namedByOperations s h (h .operations) a)));
-      good = λ j l. absurd (omega arith)
+      good = λ j l. absurd (omega arith);
     }
 
 name-step : (s : List ℤ) (h : Header) (k a : ℕ) → (namedBySteps s h k a || named-by s h a k) ≡ namedBySteps s h (k + 1) a
@@ -57,7 +57,7 @@ unfolding recordAt
 count-of s h k = refl
 
 module _ (s : List ℤ) (h : Header) (k sum : ℕ) (types : List ℕ) {named : List Bool} (few : h .nodes ≤ 1024) (typed : Typed s h types) (w : Turn s h k sum named) (l : k < h .steps)
-  {base : ℕ} {r : Record} (eb : base ≡ firstStep h) (er : r ≡ recordAt s (base + k)) where
+    {base : ℕ} {r : Record} (eb : base ≡ firstStep h) (er : r ≡ recordAt s (base + k)) where
   is : r ≡ step s h k
   is = er ∙ rw eb
 
@@ -75,7 +75,7 @@ module _ (s : List ℤ) (h : Header) (k sum : ℕ) (types : List ℕ) {named : L
           here = omega arith;
           is = rw (sum-more (routeCount s h) k, w .is, is, count-of s h k);
           names = name-more (eqb (step s h k .w0) 1) (step s h k .w1) (w .names) (e ∙ rw is) (name-step s h k);
-          good = extend-one (λ (j : ℕ). goodStep s h j ≡ true) k (w .good) (sym test ∙ p)
+          good = extend-one (λ (j : ℕ). goodStep s h j ≡ true) k (w .good) (sym test ∙ p);
         }
 
     pub stop : (m && eqb (r .w3) sum && u) ≡ false → k ≡ firstFail (goodStep s h) 0 (h .steps)

@@ -7,7 +7,8 @@ pub mod rules;
 pub mod steps;
 
 use layout::Header;
-use tables::{entry, flag};
+use tables::entry;
+use tables::flag;
 
 // Whether node a can be a root: it exists, is Bool, and has not been named.
 fn root(h: Header, types: &[usize], named: &[bool], a: usize) -> bool

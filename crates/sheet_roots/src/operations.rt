@@ -8,12 +8,12 @@ ghost use Rattle.layout.specs.Groups.{goodGroups};
 ghost use Rattle.records.specs.Operations.{goodOperation};
 ghost use Rattle.records.specs.Names.{namedByRules, namedByOperations};
 ghost use Rattle.sheet_roots.specs.Roots.{Typed, Names};
-
 use crate::root;
 use layout::Header;
 use records::good_mask;
 use tables::mark;
-use words::{record_at, unused};
+use words::record_at;
+use words::unused;
 
 pub fn check_operations(s: &[i64], h: Header, types: &[usize], named: &mut [bool]) -> usize
     requires { ⌜ Sized (now s) h × (goodGroups (now s) h ≡ true) × Typed (now s) h (now types) × Names (namedByRules (now s) h (h .rules)) (now named) ⌝ }
@@ -26,7 +26,14 @@ pub fn check_operations(s: &[i64], h: Header, types: &[usize], named: &mut [bool
     while k < n {
         let r = record_at(s, h.first_operation() + k);
         let rooted = root(h, types, named, r.w1);
-        if good_mask(h, r.w0) & rooted & (r.w2 == sum) & (1 <= r.w3) & (1 <= r.w4) & (r.w4 <= 8) & unused(5, r) {
+        if good_mask(h, r.w0)
+            & rooted
+            & (r.w2 == sum)
+            & (1 <= r.w3)
+            & (1 <= r.w4)
+            & (r.w4 <= 8)
+            & unused(5, r)
+        {
             mark(named, true, r.w1);
             sum += r.w3;
             k += 1;

@@ -8,11 +8,13 @@ ghost use Rattle.layout.specs.Sized.{Sized};
 ghost use Rattle.records.specs.Rules.{goodRule, stratum};
 ghost use Rattle.records.specs.Names.{namedByRules};
 ghost use Rattle.sheet_roots.specs.Roots.{Known, Names, topLower, NamedByNodes};
-
 use crate::root;
 use layout::Header;
-use tables::{entry, mark};
-use words::{number, record_at, unused};
+use tables::entry;
+use tables::mark;
+use words::number;
+use words::record_at;
+use words::unused;
 
 // Whether a tree whose greatest cited rule is top - 1 cites only rules below rule k and of lower stratum.
 fn cites_lower(s: &[i64], h: Header, k: usize, own: usize, top: usize) -> bool
@@ -41,7 +43,13 @@ fn risen(s: &[i64], h: Header, k: usize, own: usize) -> bool
     }
 }
 
-pub fn check_rules(s: &[i64], h: Header, types: &[usize], tops: &[usize], named: &mut [bool]) -> usize
+pub fn check_rules(
+    s: &[i64],
+    h: Header,
+    types: &[usize],
+    tops: &[usize],
+    named: &mut [bool],
+) -> usize
     requires { ⌜ Sized (now s) h × Known (now s) h (now types) (now tops) × Names (NamedByNodes (now s) h) (now named) ⌝ }
     ensures { λ k. ⌜ k ≡ firstFail (goodRule (now (s .entry)) h) 0 (h .rules) ⌝ }
     ensures { λ k. ⌜ (h .rules ≤ k → Names (namedByRules (now (s .entry)) h (h .rules)) (now (named .exit))) ⌝ }

@@ -9,12 +9,13 @@ ghost use Rattle.records.specs.Operations.{goodOperation};
 ghost use Rattle.records.specs.Names.{namedByOperations};
 ghost use Rattle.records.specs.Flows.{goodStep};
 ghost use Rattle.sheet_roots.specs.Roots.{Typed, Names, kindTest};
-
 use crate::root;
 use layout::Header;
 use records::good_operation_step;
 use tables::mark;
-use words::{record_at, unused, Record};
+use words::Record;
+use words::record_at;
+use words::unused;
 
 // A step by its kind: an operation, or a branch on a node that can be a root.
 fn good_kind(s: &[i64], h: Header, r: Record, rooted: bool) -> bool

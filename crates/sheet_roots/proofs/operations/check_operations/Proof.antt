@@ -1,84 +1,65 @@
+-- `sheet_roots::operations::check_operations` meets its contract. Assumes nothing.
+use Rattle.sheet_roots.proofs.OperationScan.{Turn, begin, fits, again, stop, finish}
+use Rattle.sheet_roots.proofs.Roots.{kept}
+use native.Mathlib.Omega.{arith}
+use Prim.Native.Nat.{_-_}
 use borrow.Author.Needs.{needs}
 use Rattle.sheet_roots.proofs.operations.check_operations.Statement.{statement}
 use Rattle.sheet_roots.proofs.operations.check_operations.Tie as tie
-use Rattle.sheet_roots.proofs.operations.check_operations.Reads as reads
-use Rattle.sheet_roots.proofs.operations.check_operations.Lts as lts
-use Rattle.layout.proofs.Header.first_operation.Reads as first-operation-reads
-use Rattle.records.proofs.good_mask.Reads as good-mask-reads
-use Rattle.sheet_roots.proofs.root.Reads as root-reads
-use Rattle.tables.proofs.mark.Reads as mark-reads
-use Rattle.words.proofs.record_at.Reads as record-at-reads
-use Rattle.words.proofs.unused.Reads as unused-reads
 
 abbrev Inv-loop : tie.InvT-loop
-Inv-loop s h types named₀ n sum₀ k₀ named sum k = ?
+Inv-loop s h types named₀ n sum₀ k₀ named sum k = Turn s h k sum named
 
 abbrev μ-loop : tie.MeasureT-loop
-μ-loop s h types named₀ n sum₀ k₀ named sum k = ?
+μ-loop s h types named₀ n sum₀ k₀ named sum k = n - k
 
--- src/operations.rt:26:5
 loop-holds : tie.Need-loop-holds Inv-loop μ-loop
-loop-holds c = search needs
+loop-holds c = begin _ _ _ (c .before .before .pre .3)
 
--- src/operations.rt:27:30
 first-operation-requires : tie.Need-first-operation-requires Inv-loop μ-loop
 first-operation-requires c κs = search needs
 
--- src/operations.rt:27:30
 add-record-at : tie.Need-add-record-at Inv-loop μ-loop
-add-record-at c = search needs
+add-record-at c = omega (arith, c .before .before .before .before .before .pre .0 .limits, c .before .before .before .before .before .pre .0 .long, c .first-operation .ensures)
 
--- src/operations.rt:27:13
 record-at-requires : tie.Need-record-at-requires Inv-loop μ-loop
-record-at-requires c κs = search needs
+record-at-requires c κs = omega (arith, c .before .before .before .before .before .pre .0 .limits, c .before .before .before .before .before .pre .0 .long, c .first-operation .ensures)
 
--- src/operations.rt:28:13
 root-requires : tie.Need-root-requires Inv-loop μ-loop
 root-requires c κs = search needs
 
--- src/operations.rt:29:12
 good-mask-requires : tie.Need-good-mask-requires Inv-loop μ-loop
 good-mask-requires c κs = search needs
 
--- src/operations.rt:29:100
 unused-requires : tie.Need-unused-requires Inv-loop μ-loop
 unused-requires c κs = search needs
 
--- src/operations.rt:30:13
 mark-requires : tie.Need-mark-requires Inv-loop μ-loop
 mark-requires c κs = search needs
 
--- src/operations.rt:31:13
 add-sum : tie.Need-add-sum Inv-loop μ-loop
-add-sum c = search needs
+add-sum c = omega (arith, fits _ _ _ _ (c .before .before .before .before .before .before .before .before .before .before .before .before .before .before .before .before .before .before .before .before .args .types .now) (c .before .before .before .before .before .before .before .before .before .before .before .before .before .before .before .before .before .before .before .before .pre .0 .limits .nodes) (c .before .before .before .before .before .before .before .before .before .before .before .before .before .before .before .before .before .before .before .before .pre .2) (c .before .before .before .before .before .before .before .before .before .before .before .before .before .before .before .before .before .loop .inv) (c .before .before .before .before .before .before .before .before .before .before .before .before .before .before .before .before .loop-test .taken) (c .before .before .before .before .before .before .before .before .before .before .before .before .before .before .before .first-operation .ensures) (c .before .before .before .before .before .before .before .before .before .before .before .before .before .before .record-at .ensures) (c .before .before .before .before .before .before .before .before .before .before .before .before .before .before .before .before .before .before .before .before .pre .1), c .before .before .before .before .before .before .before .before .before .before .before .before .before .before .before .before .before .before .before .before .pre .0 .limits .effects)
 
--- src/operations.rt:32:13
 add-k : tie.Need-add-k Inv-loop μ-loop
-add-k c = search needs
+add-k c = omega (arith, c .before .before .before .before .before .before .before .before .before .before .before .before .before .before .before .before .loop-test .taken, c .before .before .before .before .before .before .before .before .before .before .before .before .before .before .before .before .before .before .before .before .pre .0 .limits .operations)
 
--- src/operations.rt:26:5
 loop-less : tie.Need-loop-less Inv-loop μ-loop
 loop-less c = search needs
 
--- src/operations.rt:26:5
 loop-again : tie.Need-loop-again Inv-loop μ-loop
-loop-again c = search needs
+loop-again c = again _ _ _ _ (c .before .before .before .before .before .before .before .before .before .before .before .before .before .before .before .before .before .before .before .before .args .types .now) (c .before .before .before .before .before .before .before .before .before .before .before .before .before .before .before .before .before .before .before .before .pre .0 .limits .nodes) (c .before .before .before .before .before .before .before .before .before .before .before .before .before .before .before .before .before .before .before .before .pre .2) (c .before .before .before .before .before .before .before .before .before .before .before .before .before .before .before .before .before .loop .inv) (c .before .before .before .before .before .before .before .before .before .before .before .before .before .before .before .before .loop-test .taken) (c .before .before .before .before .before .before .before .before .before .before .before .before .before .before .before .first-operation .ensures) (c .before .before .before .before .before .before .before .before .before .before .before .before .before .before .record-at .ensures) (c .before .before .before .before .before .before .before .before .before .before .before .before .root .ensures) (c .before .before .before .before .before .before .before .before .before .before .before .good-mask .ensures) (c .before .before .before .before .before .before .unused .ensures) (c .before .before .before .before .before .if1 .taken) (c .before .before .before .mark .ensures)
 
--- src/operations.rt:34:13
 same-length : tie.Need-same-length Inv-loop μ-loop
-same-length c = search needs
+same-length c = kept (c .before .before .before .before .before .before .before .before .before .before .before .before .loop .inv .names) (c .before .before .before .before .before .before .before .before .before .before .before .before .before .before .before .pre .3)
 
--- src/operations.rt:34:13
 returns : tie.Need-returns Inv-loop μ-loop
-returns c = search needs
+returns c = (stop _ _ _ _ (c .before .before .before .before .before .before .before .before .before .before .before .before .before .before .before .args .types .now) (c .before .before .before .before .before .before .before .before .before .before .before .before .before .before .before .pre .0 .limits .nodes) (c .before .before .before .before .before .before .before .before .before .before .before .before .before .before .before .pre .2) (c .before .before .before .before .before .before .before .before .before .before .before .before .loop .inv) (c .before .before .before .before .before .before .before .before .before .before .before .loop-test .taken) (c .before .before .before .before .before .before .before .before .before .before .first-operation .ensures) (c .before .before .before .before .before .before .before .before .before .record-at .ensures) (c .before .before .before .before .before .before .before .root .ensures) (c .before .before .before .before .before .before .good-mask .ensures) (c .before .unused .ensures) (c .if1 .left), λ l. absurd (omega (arith, c .before .before .before .before .before .before .before .before .before .before .before .loop-test .taken)))
 
--- src/operations.rt:18:1
 same-length-2 : tie.Need-same-length-2 Inv-loop μ-loop
-same-length-2 c = search needs
+same-length-2 c = kept (c .before .loop .inv .names) (c .before .before .before .before .pre .3)
 
--- src/operations.rt:18:1
 returns-2 : tie.Need-returns-2 Inv-loop μ-loop
-returns-2 c = search needs
+returns-2 c = finish _ _ _ _ (c .before .loop .inv) (c .loop-test .left)
 
 pub check-operations-spec : {M : Type 1} → statement M
 check-operations-spec =

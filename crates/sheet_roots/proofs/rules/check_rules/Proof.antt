@@ -1,90 +1,68 @@
+-- `sheet_roots::rules::check_rules` meets its contract. Assumes nothing.
+use Rattle.sheet_roots.proofs.RuleScan.{Turn, begin, again, stop, finish}
+use Rattle.sheet_roots.proofs.Roots.{kept}
+use native.Mathlib.Omega.{arith}
+use Prim.Native.Nat.{_-_}
 use borrow.Author.Needs.{needs}
 use Rattle.sheet_roots.proofs.rules.check_rules.Statement.{statement}
 use Rattle.sheet_roots.proofs.rules.check_rules.Tie as tie
-use Rattle.sheet_roots.proofs.rules.check_rules.Reads as reads
-use Rattle.sheet_roots.proofs.rules.check_rules.Lts as lts
-use Rattle.layout.proofs.Header.first_rule.Reads as first-rule-reads
-use Rattle.sheet_roots.proofs.root.Reads as root-reads
-use Rattle.sheet_roots.proofs.rules.cites_lower.Reads as cites-lower-reads
-use Rattle.sheet_roots.proofs.rules.risen.Reads as risen-reads
-use Rattle.tables.proofs.entry.Reads as entry-reads
-use Rattle.tables.proofs.mark.Reads as mark-reads
-use Rattle.words.proofs.record_at.Reads as record-at-reads
-use Rattle.words.proofs.unused.Reads as unused-reads
 
 abbrev Inv-loop : tie.InvT-loop
-Inv-loop s h types tops named₀ n k₀ named k = ?
+Inv-loop s h types tops named₀ n k₀ named k = Turn s h k named
 
 abbrev μ-loop : tie.MeasureT-loop
-μ-loop s h types tops named₀ n k₀ named k = ?
+μ-loop s h types tops named₀ n k₀ named k = n - k
 
--- src/rules.rt:51:5
 loop-holds : tie.Need-loop-holds Inv-loop μ-loop
-loop-holds c = search needs
+loop-holds c = begin _ _ _ (c .before .before .before .pre .2)
 
--- src/rules.rt:52:30
 first-rule-requires : tie.Need-first-rule-requires Inv-loop μ-loop
 first-rule-requires c κs = search needs
 
--- src/rules.rt:52:30
 add-record-at : tie.Need-add-record-at Inv-loop μ-loop
-add-record-at c = search needs
+add-record-at c = omega (arith, c .before .before .before .before .before .before .pre .0 .limits, c .before .before .before .before .before .before .pre .0 .long, c .first-rule .ensures)
 
--- src/rules.rt:52:13
 record-at-requires : tie.Need-record-at-requires Inv-loop μ-loop
-record-at-requires c κs = search needs
+record-at-requires c κs = omega (arith, c .before .before .before .before .before .before .pre .0 .limits, c .before .before .before .before .before .before .pre .0 .long, c .first-rule .ensures)
 
--- src/rules.rt:53:13
 root-requires : tie.Need-root-requires Inv-loop μ-loop
 root-requires c κs = search needs
 
--- src/rules.rt:54:48
 entry-requires : tie.Need-entry-requires Inv-loop μ-loop
 entry-requires c κs = search needs
 
--- src/rules.rt:54:13
 cites-lower-requires : tie.Need-cites-lower-requires Inv-loop μ-loop
 cites-lower-requires c κs = search needs
 
--- src/rules.rt:55:27
 risen-requires : tie.Need-risen-requires Inv-loop μ-loop
 risen-requires c κs = search needs
 
--- src/rules.rt:55:59
 unused-requires : tie.Need-unused-requires Inv-loop μ-loop
 unused-requires c κs = search needs
 
--- src/rules.rt:56:13
 mark-requires : tie.Need-mark-requires Inv-loop μ-loop
 mark-requires c κs = search needs
 
--- src/rules.rt:57:13
 add-k : tie.Need-add-k Inv-loop μ-loop
-add-k c = search needs
+add-k c = omega (arith, c .before .before .before .before .before .before .before .before .before .before .before .before .before .before .loop-test .taken, c .before .before .before .before .before .before .before .before .before .before .before .before .before .before .before .before .before .before .before .pre .0 .limits .rules)
 
--- src/rules.rt:51:5
 loop-less : tie.Need-loop-less Inv-loop μ-loop
 loop-less c = search needs
 
--- src/rules.rt:51:5
 loop-again : tie.Need-loop-again Inv-loop μ-loop
-loop-again c = search needs
+loop-again c = again _ _ _ (c .before .before .before .before .before .before .before .before .before .before .before .before .before .before .before .before .before .before .before .pre .0 .limits .nodes) (c .before .before .before .before .before .before .before .before .before .before .before .before .before .before .before .before .before .before .before .pre .1) (c .before .before .before .before .before .before .before .before .before .before .before .before .before .before .before .loop .inv) (c .before .before .before .before .before .before .before .before .before .before .before .before .before .before .loop-test .taken) (c .before .before .before .before .before .before .before .before .before .before .before .before .before .first-rule .ensures) (c .before .before .before .before .before .before .before .before .before .before .before .before .record-at .ensures) (c .before .before .before .before .before .before .before .before .before .before .root .ensures) (c .before .before .before .before .before .before .before .before .before .entry .ensures) (c .before .before .before .before .before .before .before .before .cites-lower .ensures) (c .before .before .before .before .before .before .risen .ensures) (c .before .before .before .before .before .unused .ensures) (c .before .before .before .before .if1 .taken) (c .before .before .mark .ensures)
 
--- src/rules.rt:59:13
 same-length : tie.Need-same-length Inv-loop μ-loop
-same-length c = search needs
+same-length c = kept (c .before .before .before .before .before .before .before .before .before .before .before .loop .inv .names) (c .before .before .before .before .before .before .before .before .before .before .before .before .before .before .before .pre .2)
 
--- src/rules.rt:59:13
 returns : tie.Need-returns Inv-loop μ-loop
-returns c = search needs
+returns c = (stop _ _ _ (c .before .before .before .before .before .before .before .before .before .before .before .before .before .before .before .pre .0 .limits .nodes) (c .before .before .before .before .before .before .before .before .before .before .before .before .before .before .before .pre .1) (c .before .before .before .before .before .before .before .before .before .before .before .loop .inv) (c .before .before .before .before .before .before .before .before .before .before .loop-test .taken) (c .before .before .before .before .before .before .before .before .before .first-rule .ensures) (c .before .before .before .before .before .before .before .before .record-at .ensures) (c .before .before .before .before .before .before .root .ensures) (c .before .before .before .before .before .entry .ensures) (c .before .before .before .before .cites-lower .ensures) (c .before .before .risen .ensures) (c .before .unused .ensures) (c .if1 .left), λ l. absurd (omega (arith, c .before .before .before .before .before .before .before .before .before .before .loop-test .taken)))
 
--- src/rules.rt:44:1
 same-length-2 : tie.Need-same-length-2 Inv-loop μ-loop
-same-length-2 c = search needs
+same-length-2 c = kept (c .before .loop .inv .names) (c .before .before .before .before .before .pre .2)
 
--- src/rules.rt:44:1
 returns-2 : tie.Need-returns-2 Inv-loop μ-loop
-returns-2 c = search needs
+returns-2 c = finish _ _ _ (c .before .loop .inv) (c .loop-test .left)
 
 pub check-rules-spec : {M : Type 1} → statement M
 check-rules-spec =

@@ -1,38 +1,34 @@
+-- `sheet_roots::rules::cites_lower` meets its contract. Assumes nothing.
+use Rattle.sheet_roots.specs.Roots.{topLower}
+use Rattle.words.specs.Record.{recordAt}
+use borrow.Author.Tests.{eq-eqb, ne-eqb, le-leb, lt-leb}
 use borrow.Author.Needs.{needs}
 use Rattle.sheet_roots.proofs.rules.cites_lower.Statement.{statement}
 use Rattle.sheet_roots.proofs.rules.cites_lower.Tie as tie
-use Rattle.sheet_roots.proofs.rules.cites_lower.Reads as reads
-use Rattle.sheet_roots.proofs.rules.cites_lower.Lts as lts
-use Rattle.layout.proofs.Header.first_rule.Reads as first-rule-reads
-use Rattle.words.proofs.number.Reads as number-reads
 
--- src/rules.rt:23:9
 returns : tie.Need-returns
-returns c = search needs
+unfolding topLower
+returns c = rw (eq-eqb _ _ (c .if1 .taken))
 
--- src/rules.rt:26:19
 first-rule-requires : tie.Need-first-rule-requires
 first-rule-requires c κs = search needs
 
--- src/rules.rt:26:37
 sub-number : tie.Need-sub-number
 sub-number c = search needs
 
--- src/rules.rt:26:19
 add-number : tie.Need-add-number
 add-number c = search needs
 
--- src/rules.rt:26:9
 number-requires : tie.Need-number-requires
 number-requires c κs = search needs
 
--- src/rules.rt:18:1
 returns-2 : tie.Need-returns-2
-returns-2 c = search needs
+unfolding topLower recordAt
+returns-2 c = rw (ne-eqb _ _ (c .before .before .before .if1 .left), le-leb _ _ (c .before .before .if2 .taken), c .number .ensures, c .before .first-rule .ensures)
 
--- src/rules.rt:18:1
 returns-3 : tie.Need-returns-3
-returns-3 c = search needs
+unfolding topLower
+returns-3 c = rw (ne-eqb _ _ (c .before .if1 .left), lt-leb _ _ (c .if2 .left))
 
 pub cites-lower-spec : {M : Type 1} → statement M
 cites-lower-spec =
