@@ -1,0 +1,77 @@
+-- `decimal::put_field` meets its contract: a sign, digits and an end, one after the other. Assumes nothing.
+use borrow.Author.Needs.{needs}
+use Rattle.decimal.proofs.Writing.{put-all, length-decimal}
+use mir.Syntax.{w64}
+use mir.ValLaws.{toZ-ofZ}
+use native.Mathlib.Omega.{arith}
+use mathlib.Core.Path.{_≡_, _∙_, ap}
+use lib.ListN.{length, length-set}
+use lib.IntN.{natAbs}
+use Prim.Native.Nat.{ℕ, _+_}
+use Rattle.decimal.specs.Decimal.{digits, sign, decimal}
+use Rattle.decimal.proofs.put_field.Statement.{statement}
+use Rattle.decimal.proofs.put_field.Tie as tie
+
+spelled : (c : tie.After-put-sign) → c .before .before .before .magnitude .result ≡ natAbs (c .before .before .before .before .before .args .w)
+spelled c = rw (toZ-ofZ w64 (c .before .before .before .before .before .args .w) (c .before .before .before .before .before .fits .w)) at (c .before .before .before .magnitude .ensures)
+
+signed : (c : tie.After-put-sign) → c .put-sign .result ≡ c .before .before .before .before .before .args .at + length (sign (c .before .before .before .before .before .args .w))
+signed c = rw (toZ-ofZ w64 (c .before .before .before .before .before .args .w) (c .before .before .before .before .before .fits .w)) at (c .put-sign .ensures .0)
+
+counted : (c : tie.After-put-sign) → c .before .before .width .result ≡ length (digits (natAbs (c .before .before .before .before .before .args .w)))
+counted c = c .before .before .width .ensures ∙ ap (λ (k : ℕ). length (digits k)) (spelled c)
+
+placed : (c : tie.After-put-sign) → c .put-sign .result + c .before .before .width .result ≡ c .before .before .before .before .before .args .at + length (decimal (c .before .before .before .before .before .args .w))
+placed c = omega (arith, signed c, counted c, length-decimal (c .before .before .before .before .before .args .w))
+
+magnitude-requires : tie.Need-magnitude-requires
+magnitude-requires c κs =
+    let start = c .before in
+    rw (toZ-ofZ w64 (start .args .w) (start .fits .w)) (start .pre .0)
+
+width-requires : tie.Need-width-requires
+width-requires c κs = search needs
+
+put-sign-requires : tie.Need-put-sign-requires
+put-sign-requires c κs =
+    let start = c .before .before .before .before in
+    rw (toZ-ofZ w64 (start .args .w) (start .fits .w)) (omega (arith, length-decimal (start .args .w)))
+
+put-digits-requires : tie.Need-put-digits-requires
+put-digits-requires c κs =
+    let signed-at = c .before .before .before in
+    (c .before .before .before .before .before .width .ensures, omega (arith, placed signed-at, signed-at .put-sign .kept .0, c .before .before .before .before .before .before .before .before .pre .1))
+
+add-last : tie.Need-add-last
+add-last c = omega (arith, placed (c .before .before .before .before .before .before), c .before .before .before .before .before .before .before .before .before .before .before .pre .1)
+
+slice-write-text : tie.Need-slice-write-text
+slice-write-text c =
+    let signed-at = c .before .before .before .before .before .before in
+    omega (arith, placed signed-at, c .before .before .before .before .before .before .before .before .before .before .before .pre .1, signed-at .put-sign .kept .0, c .before .before .put-digits .kept .0)
+
+add-result : tie.Need-add-result
+add-result c = omega (arith, placed (c .before .before .before .before .before .before), c .before .before .before .before .before .before .before .before .before .before .before .pre .1)
+
+same-length : tie.Need-same-length
+same-length c = simp length-set (c .before .before .put-digits .kept .0 ∙ c .before .before .before .before .before .before .put-sign .kept .0)
+
+returns : tie.Need-returns
+returns c =
+    let signed-at = c .before .before .before .before .before .before in
+    let start = c .before .before .before .before .before .before .before .before .before .before .before in
+    (ap (λ (k : ℕ). k + 1) (placed signed-at), rw (c .before .before .put-digits .ensures, signed-at .put-sign .ensures .1, toZ-ofZ w64 (start .args .w) (start .fits .w), signed signed-at, counted signed-at, spelled signed-at) (put-all (start .args .text .now) (start .args .at) (start .args .w) (start .args .end)))
+
+pub put-field-spec : {M : Type 1} → statement M
+put-field-spec =
+    tie.close
+    (tie.spec
+    magnitude-requires
+    width-requires
+    put-sign-requires
+    put-digits-requires
+    add-last
+    slice-write-text
+    add-result
+    same-length
+    returns)

@@ -1,0 +1,66 @@
+-- `sheet::check_ranges` meets its contract. Assumes nothing.
+use Rattle.sheet.proofs.Parts.{sized-of, answer-bad, answer-done, not-done}
+use Rattle.records.proofs.Acceptance.{bad-header, bad-group}
+use Rattle.layout.proofs.Limits.{sixteen}
+use mathlib.Core.Path.{sym, _∙_}
+use native.Mathlib.Omega.{arith}
+use borrow.Author.Needs.{needs}
+use Rattle.sheet.proofs.check_ranges.Statement.{statement}
+use Rattle.sheet.proofs.check_ranges.Tie as tie
+
+good-header-requires : tie.Need-good-header-requires
+good-header-requires c κs = search needs
+
+read-requires : tie.Need-read-requires
+read-requires c κs = sixteen _ (sym (c .before .good-header .ensures) ∙ c .if1 .taken)
+
+good-groups-requires : tie.Need-good-groups-requires
+good-groups-requires c κs = sized-of _ (c .read .ensures) (sym (c .before .before .good-header .ensures) ∙ c .before .if1 .taken)
+
+first-bad-requires : tie.Need-first-bad-requires
+first-bad-requires c κs = (sized-of _ (c .before .before .before .before .read .ensures) (sym (c .before .before .before .before .before .before .good-header .ensures) ∙ c .before .before .before .before .before .if1 .taken), (sym (c .before .before .before .good-groups .ensures) ∙ c .before .before .if2 .taken), c .before .before .before .before .before .before .before .pre .0, c .before .before .before .before .before .before .before .pre .1)
+
+records-requires : tie.Need-records-requires
+records-requires c κs = sized-of _ (c .before .before .before .before .before .before .before .read .ensures) (sym (c .before .before .before .before .before .before .before .before .before .good-header .ensures) ∙ c .before .before .before .before .before .before .before .before .if1 .taken) .limits
+
+same-length : tie.Need-same-length
+same-length c = search needs
+
+same-length-2 : tie.Need-same-length-2
+same-length-2 c = search needs
+
+returns : tie.Need-returns
+returns c = (answer-bad _ (c .before .before .before .before .before .before .before .before .before .read .ensures) (sym (c .before .before .before .before .before .before .before .before .before .before .before .good-header .ensures) ∙ c .before .before .before .before .before .before .before .before .before .before .if1 .taken) (sym (c .before .before .before .before .before .before .before .before .good-groups .ensures) ∙ c .before .before .before .before .before .before .before .if2 .taken) (c .before .before .before .before .first-bad .ensures .0) (c .before .records .ensures) (c .if3 .taken), λ e. absurd (not-done e))
+
+same-length-3 : tie.Need-same-length-3
+same-length-3 c = search needs
+
+same-length-4 : tie.Need-same-length-4
+same-length-4 c = search needs
+
+returns-2 : tie.Need-returns-2
+returns-2 c = (answer-done _ (c .before .before .before .before .before .before .before .before .before .read .ensures) (sym (c .before .before .before .before .before .before .before .before .before .before .before .good-header .ensures) ∙ c .before .before .before .before .before .before .before .before .before .before .if1 .taken) (sym (c .before .before .before .before .before .before .before .before .good-groups .ensures) ∙ c .before .before .before .before .before .before .before .if2 .taken) (c .before .before .before .before .first-bad .ensures .0) (c .before .records .ensures) (c .if3 .left), λ _. rw (← c .before .before .before .before .before .before .before .before .before .read .ensures) (c .before .before .before .before .first-bad .ensures .1 (omega (arith, c .if3 .left, c .before .records .ensures))))
+
+returns-3 : tie.Need-returns-3
+returns-3 c = (sym (bad-group _ (sym (c .before .before .before .before .good-header .ensures) ∙ c .before .before .before .if1 .taken) (rw (c .before .before .read .ensures) at (sym (c .before .good-groups .ensures) ∙ c .if2 .left))), λ e. absurd (not-done e))
+
+returns-4 : tie.Need-returns-4
+returns-4 c = (sym (bad-header _ (sym (c .before .good-header .ensures) ∙ c .if1 .left)), λ e. absurd (not-done e))
+
+pub check-ranges-spec : {M : Type 1} → statement M
+check-ranges-spec =
+    tie.close
+    (tie.spec
+    good-header-requires
+    read-requires
+    good-groups-requires
+    first-bad-requires
+    records-requires
+    same-length
+    same-length-2
+    returns
+    same-length-3
+    same-length-4
+    returns-2
+    returns-3
+    returns-4)

@@ -1,0 +1,147 @@
+// The sheet checker: refusals 1, 2 and 3.
+ghost use mathlib.Core.Path.{_≡_};
+ghost use mathlib.Core.Bool.{true, false};
+ghost use Prim.Native.Nat.{ℕ, _+_, _≤_, _<_};
+ghost use lib.IntN.{pos};
+ghost use lib.ListN.{replicate};
+ghost use Rattle.answer.specs.declared.Status.the-variants.{Done};
+ghost use Rattle.layout.specs.Header.{headerOf, records};
+ghost use Rattle.layout.specs.Sized.{Sized};
+ghost use Rattle.layout.specs.Groups.{goodGroups};
+ghost use Rattle.records.specs.Accept.{checked, firstBad};
+ghost use Rattle.records.proofs.Chain.{First};
+ghost use Rattle.records.specs.Names.{namedByOperations};
+ghost use Rattle.sheet_nodes.specs.Arrays.{Empty};
+ghost use Rattle.sheet_roots.specs.Roots.{Names};
+ghost use Rattle.sheet.specs.Parts.{upperTables, middleTables, lowerTables, Ranges, Upper, Middle, Lower};
+use answer::Refusal;
+use answer::Status;
+use layout::Header;
+use layout::good_groups;
+use layout::good_header;
+use sheet_effects::check_effects;
+use sheet_facts::check_facts;
+use sheet_flows::check_flows;
+use sheet_flows::check_routes;
+use sheet_nodes::check_nodes;
+use sheet_roots::operations::check_operations;
+use sheet_roots::rules::check_rules;
+use sheet_roots::steps::check_steps;
+use sheet_states::check_entities;
+use sheet_states::check_transitions;
+
+// The first bad record of facts, nodes and rules, counted through them, or how many they are.
+fn upper(
+    s: &[i64],
+    h: Header,
+    lows: &mut [i64],
+    highs: &mut [i64],
+    types: &mut [usize],
+    tops: &mut [usize],
+    named: &mut [bool],
+) -> usize
+    requires { ⌜ Sized (now s) h × Empty (now lows) (now highs) (now types) (now tops) (now named) ⌝ }
+    ensures { λ k. ⌜ First (upperTables (now (s .entry)) h) k ⌝ }
+    ensures { λ k. ⌜ (h .facts + h .nodes + h .rules ≤ k → Upper (now (s .entry)) h (now (lows .exit)) (now (highs .exit)) (now (types .exit)) (now (named .exit))) ⌝ }
+{
+    let facts = check_facts(s, h);
+    if facts < h.facts {
+        return facts;
+    }
+    let nodes = check_nodes(s, h, lows, highs, types, tops, named);
+    if nodes < h.nodes {
+        return h.facts + nodes;
+    }
+    let rules = check_rules(s, h, types, tops, named);
+    h.first_rule() + rules
+}
+
+// The same of entities, transitions, operations and effects.
+fn middle(s: &[i64], h: Header, types: &[usize], named: &mut [bool]) -> usize
+    requires { ⌜ Sized (now s) h × (goodGroups (now s) h ≡ true) × Middle (now s) h (now types) (now named) ⌝ }
+    ensures { λ k. ⌜ First (middleTables (now (s .entry)) h) k ⌝ }
+    ensures { λ k. ⌜ (h .entities + h .transitions + h .operations + h .effects ≤ k → Names (namedByOperations (now (s .entry)) h (h .operations)) (now (named .exit))) ⌝ }
+{
+    let mut declared = [false; 8192];
+    let entities = check_entities(s, h);
+    if entities < h.entities {
+        return entities;
+    }
+    let transitions = check_transitions(s, h, &mut declared);
+    if transitions < h.transitions {
+        return h.entities + transitions;
+    }
+    let operations = check_operations(s, h, types, named);
+    if operations < h.operations {
+        return h.entities + h.transitions + operations;
+    }
+    h.entities + h.transitions + h.operations + check_effects(s, h, &declared)
+}
+
+// The same of flows, steps and routes.
+fn lower(s: &[i64], h: Header, types: &[usize], named: &mut [bool]) -> usize
+    requires { ⌜ Sized (now s) h × (goodGroups (now s) h ≡ true) × Lower (now s) h (now types) (now named) ⌝ }
+    ensures { λ k. ⌜ First (lowerTables (now (s .entry)) h) k ⌝ }
+{
+    let flows = check_flows(s, h);
+    if flows < h.flows {
+        return flows;
+    }
+    let steps = check_steps(s, h, types, named);
+    if steps < h.steps {
+        return h.flows + steps;
+    }
+    h.flows + h.steps + check_routes(s, h)
+}
+
+// The number of the first bad record, or of all records where none is bad. The arrays then hold the nodes' value ranges.
+fn first_bad(s: &[i64], h: Header, lows: &mut [i64], highs: &mut [i64]) -> usize
+    requires { ⌜ Sized (now s) h × (goodGroups (now s) h ≡ true) × (now lows ≡ replicate 1024 (pos 0)) × (now highs ≡ replicate 1024 (pos 0)) ⌝ }
+    ensures { λ k. ⌜ k ≡ firstBad (now (s .entry)) h ⌝ }
+    ensures { λ k. ⌜ (records h ≤ k → Ranges (now (s .entry)) h (now (lows .exit)) (now (highs .exit))) ⌝ }
+{
+    let mut types = [0usize; 1024];
+    let mut tops = [0usize; 1024];
+    let mut named = [false; 1024];
+    let a = upper(s, h, lows, highs, &mut types, &mut tops, &mut named);
+    if a < h.first_entity() {
+        return a;
+    }
+    let b = middle(s, h, &types, &mut named);
+    if b < h.entities + h.transitions + h.operations + h.effects {
+        return h.first_entity() + b;
+    }
+    h.first_flow() + lower(s, h, &types, &mut named)
+}
+
+// As `check`, on two arrays of zeros: where the sheet is accepted they hold the nodes' value ranges.
+pub fn check_ranges(s: &[i64], lows: &mut [i64], highs: &mut [i64]) -> Status
+    requires { ⌜ (now lows ≡ replicate 1024 (pos 0)) × (now highs ≡ replicate 1024 (pos 0)) ⌝ }
+    ensures { λ r. ⌜ r ≡ checked (now (s .entry)) ⌝ }
+    ensures { λ r. ⌜ (r ≡ Done → Ranges (now (s .entry)) (headerOf (now (s .entry))) (now (lows .exit)) (now (highs .exit))) ⌝ }
+{
+    if good_header(s) {
+        let h = Header::read(s);
+        if good_groups(s, h) {
+            let k = first_bad(s, h, lows, highs);
+            if k < h.records() {
+                Status::Refused(Refusal::Record(k))
+            } else {
+                Status::Done
+            }
+        } else {
+            Status::Refused(Refusal::Group)
+        }
+    } else {
+        Status::Refused(Refusal::Header)
+    }
+}
+
+// Judges any words: accepted, or refused 1, 2 or 3 with its place.
+pub fn check(s: &[i64]) -> Status
+    ensures { λ r. ⌜ r ≡ checked (now (s .entry)) ⌝ }
+{
+    let mut lows = [0i64; 1024];
+    let mut highs = [0i64; 1024];
+    check_ranges(s, &mut lows, &mut highs)
+}

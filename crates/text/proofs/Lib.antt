@@ -1,0 +1,9 @@
+pub mod Cut
+pub mod Rows
+pub mod Calls
+pub mod RoundTrips
+pub mod Fields
+pub mod Judging
+pub mod LineSteps
+pub mod ReadLoops
+pub mod WriteLoops
