@@ -1,0 +1,35 @@
+// The public calls, as C links them: include/fernpocket.h says what each answers.
+ghost use mathlib.Core.Path.{_≡_};
+ghost use lib.ListN.{length};
+ghost use Rattle.answer.specs.Answers.{statusAnswer, countAnswer};
+ghost use Rattle.records.specs.Accept.{checked};
+ghost use Rattle.text.specs.Calls.{readAnswer, readBuffer, writeAnswer, writeBuffer};
+use answer::Answer;
+use answer::of_count;
+use answer::of_status;
+
+// The sheet checker.
+#[no_mangle]
+pub extern "C" fn fernpocket_check(sheet: &[i64]) -> Answer
+    ensures { λ a. ⌜ a ≡ statusAnswer (checked (now (sheet .entry))) ⌝ }
+{
+    of_status(sheet::check(sheet))
+}
+
+// The text of a sheet, read into words.
+#[no_mangle]
+pub extern "C" fn fernpocket_read_text(text: &[u8], words: &mut [i64]) -> Answer
+    ensures { λ a. ⌜ a ≡ countAnswer (readAnswer (now (text .entry)) (length (now (words .entry)))) ⌝ }
+    ensures { λ _. ⌜ now (words .exit) ≡ readBuffer (now (text .entry)) (now (words .entry)) ⌝ }
+{
+    of_count(text::read(text, words))
+}
+
+// Words written as the text of a sheet.
+#[no_mangle]
+pub extern "C" fn fernpocket_write_text(words: &[i64], text: &mut [u8]) -> Answer
+    ensures { λ a. ⌜ a ≡ countAnswer (writeAnswer (now (words .entry)) (length (now (text .entry)))) ⌝ }
+    ensures { λ _. ⌜ now (text .exit) ≡ writeBuffer (now (words .entry)) (now (text .entry)) ⌝ }
+{
+    of_count(text::write(words, text))
+}
