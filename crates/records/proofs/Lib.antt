@@ -5,6 +5,4 @@ pub mod Acceptance
 pub mod FactLaws
 pub mod NodeLaws
 pub mod RuleLaws
-pub mod GroupLaws
-pub mod OperationLaws
 pub mod FlowLaws

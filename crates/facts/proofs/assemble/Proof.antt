@@ -1,0 +1,77 @@
+-- `facts::assemble` meets its contract: the entries passed hold their facts, the others what they held. Assumes nothing.
+use mathlib.Core.Path.{_∙_}
+use Rattle.signed.proofs.Fit.{back-of}
+use Rattle.facts.proofs.Filled.{Filled, none, more, done}
+use Rattle.facts.specs.Assembled.{taken, assembled}
+use lib.ListN.{getD}
+use lib.IntN.{pos}
+use Prim.Native.Nat.{ℕ, _-_}
+use borrow.Author.Needs.{needs}
+use Rattle.facts.proofs.assemble.Statement.{statement}
+use Rattle.facts.proofs.assemble.Tie as tie
+
+abbrev Inv-loop : tie.InvT-loop
+Inv-loop s values given facts₀ n k₀ facts k = Filled (λ (j : ℕ). taken s j (getD values j (pos 0)) (getD given j (pos 0))) (pos 0) facts₀ n k facts
+
+abbrev μ-loop : tie.MeasureT-loop
+μ-loop s values given facts₀ n k₀ facts k = n - k
+
+loop-holds : tie.Need-loop-holds Inv-loop μ-loop
+loop-holds c = none _ _ _ _ (search needs)
+
+mul-take-fact : tie.Need-mul-take-fact Inv-loop μ-loop
+mul-take-fact c = search needs
+
+shared-slice-copy-out-take-fact : tie.Need-shared-slice-copy-out-take-fact Inv-loop μ-loop
+shared-slice-copy-out-take-fact c = search needs
+
+mul-take-fact-2 : tie.Need-mul-take-fact-2 Inv-loop μ-loop
+mul-take-fact-2 c = search needs
+
+shared-slice-copy-out-take-fact-2 : tie.Need-shared-slice-copy-out-take-fact-2 Inv-loop μ-loop
+shared-slice-copy-out-take-fact-2 c = search needs
+
+take-fact-requires : tie.Need-take-fact-requires Inv-loop μ-loop
+take-fact-requires c κs = search needs
+
+mul-t16 : tie.Need-mul-t16 Inv-loop μ-loop
+mul-t16 c = search needs
+
+slice-set-from-facts : tie.Need-slice-set-from-facts Inv-loop μ-loop
+slice-set-from-facts c = search needs
+
+add-k : tie.Need-add-k Inv-loop μ-loop
+add-k c = search needs
+
+loop-less : tie.Need-loop-less Inv-loop μ-loop
+loop-less c = search needs
+
+loop-again : tie.Need-loop-again Inv-loop μ-loop
+loop-again c = more _ _ _ _ _ _ _ (c .before .before .before .before .loop .inv) (c .before .before .before .loop-test .taken) (back-of (c .take-fact .result) (c .take-fact .ok) ∙ rw (back-of _ (c .before .before .take-fact-arg .given), back-of _ (c .before .take-fact-arg2 .given)) at (c .take-fact .ensures))
+
+same-length : tie.Need-same-length Inv-loop μ-loop
+same-length c = search needs
+
+returns : tie.Need-returns Inv-loop μ-loop
+unfolding assembled
+returns c = done _ _ _ _ _ _ (c .before .loop .inv) (c .loop-test .left)
+
+pub assemble-spec : {M : Type 1} → statement M
+assemble-spec =
+    tie.close
+    (tie.spec
+    Inv-loop
+    μ-loop
+    loop-holds
+    mul-take-fact
+    shared-slice-copy-out-take-fact
+    mul-take-fact-2
+    shared-slice-copy-out-take-fact-2
+    take-fact-requires
+    mul-t16
+    slice-set-from-facts
+    add-k
+    loop-less
+    loop-again
+    same-length
+    returns)

@@ -1,0 +1,41 @@
+-- `facts::fact_fault` meets its contract: each way out is a case of the fault. Assumes nothing.
+use Rattle.facts.proofs.FaultLaws.{defaulted, absent, fair, unfair}
+use Rattle.signed.proofs.Fit.{back}
+use borrow.Author.Tests.{eq-eqb, ne-eqb}
+use mathlib.Core.Path.{sym, _∙_}
+use borrow.Author.Needs.{needs}
+use Rattle.facts.proofs.fact_fault.Statement.{statement}
+use Rattle.facts.proofs.fact_fault.Tie as tie
+
+same-requires : tie.Need-same-requires
+same-requires c κs = search needs
+
+number-requires : tie.Need-number-requires
+number-requires c κs = search needs
+
+given-in-range-requires : tie.Need-given-in-range-requires
+given-in-range-requires c κs = search needs
+
+returns : tie.Need-returns
+returns c = sym (defaulted _ _ _ _ (sym (rw (back (c .before .before .before .before .fits .g)) at (c .before .before .before .same .ensures)) ∙ c .before .before .if1 .taken) (eq-eqb _ 1 (sym (c .before .number .ensures) ∙ c .if2 .taken)))
+
+returns-2 : tie.Need-returns-2
+returns-2 c = sym (absent _ _ _ _ (sym (rw (back (c .before .before .before .before .fits .g)) at (c .before .before .before .same .ensures)) ∙ c .before .before .if1 .taken) (ne-eqb _ 1 (λ e. c .if2 .left (c .before .number .ensures ∙ e))))
+
+returns-3 : tie.Need-returns-3
+returns-3 c = sym (fair _ _ _ _ (sym (rw (back (c .before .before .before .before .fits .g)) at (c .before .before .before .same .ensures)) ∙ c .before .before .if1 .left) (sym (rw (back (c .before .before .before .before .fits .g), back (c .before .before .before .before .fits .x)) at (c .before .given-in-range .ensures)) ∙ c .if3 .taken))
+
+returns-4 : tie.Need-returns-4
+returns-4 c = sym (unfair _ _ _ _ (sym (rw (back (c .before .before .before .before .fits .g)) at (c .before .before .before .same .ensures)) ∙ c .before .before .if1 .left) (sym (rw (back (c .before .before .before .before .fits .g), back (c .before .before .before .before .fits .x)) at (c .before .given-in-range .ensures)) ∙ c .if3 .left))
+
+pub fact-fault-spec : {M : Type 1} → statement M
+fact-fault-spec =
+    tie.close
+    (tie.spec
+    same-requires
+    number-requires
+    given-in-range-requires
+    returns
+    returns-2
+    returns-3
+    returns-4)

@@ -1,0 +1,6 @@
+pub mod ExprLaws
+pub mod Truth
+pub mod KindRange
+pub mod ValueLaws
+pub mod VerdictLaws
+pub mod SizeLaws

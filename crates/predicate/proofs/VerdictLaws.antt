@@ -1,0 +1,148 @@
+-- The verdicts: each is 1 or 0, and is judged by the facts and by verdicts of lower stratum alone.
+-- Assumes nothing.
+use mathlib.Core.Path.{_≡_, refl, sym, ap, _∙_}
+use mathlib.Core.Bool.{Bool, true}
+use mathlib.Core.List.{List, [], _∷_, _++_}
+use mathlib.Core.Logic.{⊎-elim}
+use Prim.Native.Nat.{ℕ, zero, suc, _+_, _≤_, _<_}
+use lib.IntN.{ℤ, pos}
+use lib.ListN.{length, getD, take, set, length-append, length-set, List·getD-append}
+use lib.Seq.{take-all, take-suc-set, getD-at}
+use lib.Dec.{ltb}
+use borrow.Author.Tests.{ltb-true}
+use native.Mathlib.Numerals.{add-one}
+use native.Mathlib.Omega.{arith}
+use Rattle.tables.proofs.Bools.{and-left}
+use Rattle.tables.proofs.Scans.{below-suc}
+use Rattle.signed.specs.Words.{within}
+use Rattle.signed.proofs.Bounds.{true-in}
+use Rattle.words.specs.Record.{word}
+use Rattle.layout.specs.declared.Header.{Header}
+use Rattle.layout.specs.Header.{firstNode}
+use Rattle.layout.specs.Tables.{node}
+use Rattle.records.specs.Accepted.{Accepted}
+use Rattle.records.specs.Nodes.{nodeKind, leftOf, rightOf}
+use Rattle.records.specs.Rules.{lower, citesLower}
+use Rattle.records.proofs.NodeLaws.{node-ok}
+use Rattle.records.proofs.RuleLaws.{rule-ok, cites-here, cites-left, cites-right}
+use Rattle.facts.specs.Assembled.{FactsIn}
+use Rattle.predicate.specs.Exprs.{exprOf}
+use Rattle.predicate.specs.Values.{bit, truth, valueOf, Truths, Evaluable}
+use Rattle.predicate.specs.Verdicts.{whenNode, verdictsTo, verdictsOf}
+use Rattle.predicate.proofs.ExprLaws.{strong, each-by}
+use Rattle.predicate.proofs.Truth.{bit-bool}
+use Rattle.predicate.proofs.ValueLaws.{look, look-below, value-is, same-value}
+
+-- ---- every verdict is 1 or 0
+
+none-true : Truths []
+unfolding within
+none-true = record { each = λ k. refl }
+
+one-more : (t : List ℤ) (b : Bool) → ((k : ℕ) → within (pos 0) (getD t k (pos 0)) (pos 1) ≡ true) → (k : ℕ) → within (pos 0) (getD (t ++ (bit b ∷ [])) k (pos 0)) (pos 1) ≡ true
+one-more [] b h zero = true-in (pos 0) (bit b) (pos 1) (bit-bool b)
+one-more [] b h (suc k) = none-true .each k
+one-more (x ∷ xs) b h zero = h zero
+one-more (x ∷ xs) b h (suc k) = one-more xs b (λ j. h (suc j)) k
+
+module _ (s : List ℤ) (h : Header) (facts : List ℤ) where
+  pub truths-to : (k : ℕ) → Truths (verdictsTo s h facts k)
+  unfolding verdictsTo
+  truths-to zero = none-true
+  truths-to (suc k) = record { each = one-more (verdictsTo s h facts k) (truth s h facts (verdictsTo s h facts k) (whenNode s h k)) (truths-to k .each) }
+
+  pub verdicts-true : Truths (verdictsOf s h facts)
+  unfolding verdictsOf
+  verdicts-true = truths-to (h .rules)
+
+  pub length-to : (k : ℕ) → length (verdictsTo s h facts k) ≡ k
+  unfolding verdictsTo
+  length-to zero = refl
+  length-to (suc k) =
+      length-append (verdictsTo s h facts k) (bit (truth s h facts (verdictsTo s h facts k) (whenNode s h k)) ∷ []) ∙ rw (length-to k) (omega arith)
+
+  pub length-verdicts : length (verdictsOf s h facts) ≡ h .rules
+  unfolding verdictsOf
+  length-verdicts = length-to (h .rules)
+
+  -- the verdict of rule j, among any number of rules
+  pub verdict-at : (k j : ℕ) → j < k → getD (verdictsTo s h facts k) j (pos 0) ≡ bit (truth s h facts (verdictsTo s h facts j) (whenNode s h j))
+  unfolding verdictsTo
+  verdict-at zero j l = absurd (omega arith)
+  verdict-at (suc k) j l =
+      ⊎-elim (λ b. List·getD-append (verdictsTo s h facts k) _ (pos 0) j (rw (length-to k) b) ∙ verdict-at k j b)
+      (λ e. rw e (getD-at (verdictsTo s h facts k) _ [] (pos 0) k (length-to k))) (below-suc j k l)
+
+-- ---- a rule's judgement hangs on the facts and on lower verdicts alone
+
+module _ (s : List ℤ) (h : Header) (facts : List ℤ) (a : Accepted s h) (k : ℕ) (v w : List ℤ) (agree : (c : ℕ) → lower s h k c ≡ true → getD v c (pos 0) ≡ getD w c (pos 0)) where
+  cites-step : (n : ℕ) → ((j : ℕ) → j < n → j < h .nodes → citesLower s h k j ≡ true → valueOf s h facts v j ≡ valueOf s h facts w j) → n < h .nodes → citesLower s h k n ≡ true → valueOf s h facts v n ≡ valueOf s h facts w n
+  unfolding exprOf
+  cites-step n ih l p =
+      let q = node-ok s h n (a .nodes n l) in
+      let child : (j : ℕ) → j < n → citesLower s h k j ≡ true → look s h facts v n j ≡ look s h facts w n j = λ j b c. look-below s h facts v n j b ∙ ih j b (omega arith) c ∙ sym (look-below s h facts w n j b) in
+      value-is s h facts v n
+      ∙ same-value facts v w (λ op. Unit {0}) (look s h facts v n) (look s h facts w n) (exprOf s h n)
+      (each-by (λ j. Unit {0}) (λ c. getD v c (pos 0) ≡ getD w c (pos 0)) (λ op. Unit {0}) (λ j. look s h facts v n j ≡ look s h facts w n j) (node s h n) (word s (firstNode h + n) 1) (word s (firstNode h + n) 2) (nodeKind s h n) (λ e. tt)
+      (λ e. agree (node s h n .w1) (cites-here s h k n p e)) (λ e. tt) tt
+      (λ e. child (leftOf s h n) (q .left e .0) (cites-left s h k n p e (q .left e .0)))
+      (λ e. child (rightOf s h n) (q .right e .0) (cites-right s h k n p e (q .right e .0))))
+      ∙ sym (value-is s h facts w n)
+
+  -- the value of a node whose tree cites only lower rules
+  cites-only : (n : ℕ) → n < h .nodes → citesLower s h k n ≡ true → valueOf s h facts v n ≡ valueOf s h facts w n
+  cites-only = strong (λ (n : ℕ). n < h .nodes → citesLower s h k n ≡ true → valueOf s h facts v n ≡ valueOf s h facts w n) cites-step
+
+  -- rule k comes out alike under two lists of verdicts that agree on the rules of smaller number and lower stratum
+  pub verdicts-below : k < h .rules → valueOf s h facts v (whenNode s h k) ≡ valueOf s h facts w (whenNode s h k)
+  verdicts-below l = let r = rule-ok s h k (a .rules k l) in cites-only (whenNode s h k) (r .root .exists) (r .cites)
+
+module _ (s : List ℤ) (h : Header) (facts : List ℤ) where
+  -- so a rule's verdict says whether its when-node is true over the facts and all the verdicts
+  pub verdict-is : Accepted s h → (k : ℕ) → k < h .rules → getD (verdictsOf s h facts) k (pos 0) ≡ bit (truth s h facts (verdictsOf s h facts) (whenNode s h k))
+  unfolding verdictsOf
+  verdict-is a k l =
+      verdict-at s h facts (h .rules) k l
+      ∙ rw (verdicts-below s h facts a k (verdictsTo s h facts k) (verdictsTo s h facts (h .rules)) (λ c p. let b = ltb-true c k (and-left (ltb c k) _ p) in verdict-at s h facts k c b ∙ sym (verdict-at s h facts (h .rules) c (omega arith))) l)
+
+-- what evaluating a node over the verdicts asks
+pub over-verdicts : {s : List ℤ} {h : Header} {facts : List ℤ} {n : ℕ} → Accepted s h → FactsIn s h facts → n < h .nodes → Evaluable s h facts (verdictsOf s h facts) n
+over-verdicts {s} {h} {facts} a f l = record { accepted = a; known = f; judged = verdicts-true s h facts; exists = l }
+
+-- ---- the loop that fills the verdicts
+
+-- of a list of so many rules' verdicts the first k are stored; the others may be anything
+pub record Judged (s : List ℤ) (h : Header) (facts : List ℤ) (rules k : ℕ) (out : List ℤ) : Type 0 where
+  pub here : k ≤ rules
+  pub long : length out ≡ rules
+  pub stored : take k out ≡ verdictsTo s h facts k
+
+module _ (s : List ℤ) (h : Header) (facts : List ℤ) (rules : ℕ) where
+  pub none : (out : List ℤ) → length out ≡ rules → Judged s h facts rules 0 out
+  unfolding verdictsTo
+  none out e = record { here = omega arith; long = e; stored = refl }
+
+  pub more : (k : ℕ) (out : List ℤ) (x : ℤ) → Judged s h facts rules k out → k < rules → x ≡ bit (truth s h facts (take k out) (whenNode s h k)) → Judged s h facts rules (k + 1) (set out k x)
+  unfolding verdictsTo
+  more k out x r l e =
+      record {
+        here = omega arith;
+        long = length-set out k x ∙ r .long;
+        stored = rw add-one (take-suc-set out k x (omega (arith, r .long)) ∙ rw (e, r .stored));
+      }
+
+pub done : (s : List ℤ) (h : Header) (facts : List ℤ) (k : ℕ) (out : List ℤ) → Judged s h facts (h .rules) k out → h .rules ≤ k → out ≡ verdictsOf s h facts
+unfolding verdictsOf
+done s h facts k out r l =
+    let e : k ≡ h .rules = omega (arith, r .here) in
+    sym (take-all k out (omega (arith, r .long))) ∙ r .stored ∙ ap (verdictsTo s h facts) e
+
+-- what judging rule k asks
+pub judging : {s : List ℤ} {h : Header} {facts out : List ℤ} {k : ℕ} {rules : ℕ} → Accepted s h → FactsIn s h facts → Judged s h facts rules k out → k < h .rules → Evaluable s h facts (take k out) (whenNode s h k)
+judging {s} {h} {facts} {out} {k} a f r l =
+    record {
+      accepted = a;
+      known = f;
+      judged = rw (r .stored) (truths-to s h facts k);
+      exists = rule-ok s h k (a .rules k l) .root .exists;
+    }

@@ -1,0 +1,86 @@
+-- `predicate::fill_verdicts` meets its contract: the verdicts passed are stored. Assumes nothing.
+use Rattle.predicate.specs.Values.{bit}
+use Rattle.words.specs.Record.{recordAt}
+use Rattle.signed.proofs.Fit.{back-of}
+use lib.Seq.{length-take-le}
+use mathlib.Core.Path.{sym, ap, _∙_}
+use Rattle.predicate.proofs.VerdictLaws.{Judged, none, more, done, judging}
+use Prim.Native.Nat.{_-_}
+use borrow.Author.Needs.{needs}
+use Rattle.predicate.proofs.fill_verdicts.Statement.{statement}
+use Rattle.predicate.proofs.fill_verdicts.Tie as tie
+
+abbrev Inv-loop : tie.InvT-loop
+Inv-loop s h facts out₀ rules first k₀ out k = Judged s h facts rules k out
+
+abbrev μ-loop : tie.MeasureT-loop
+μ-loop s h facts out₀ rules first k₀ out k = rules - k
+
+add-first : tie.Need-add-first Inv-loop μ-loop
+add-first c = search needs
+
+loop-holds : tie.Need-loop-holds Inv-loop μ-loop
+loop-holds c = none _ _ _ _ _ (search needs)
+
+add-number : tie.Need-add-number Inv-loop μ-loop
+add-number c = search needs
+
+number-requires : tie.Need-number-requires Inv-loop μ-loop
+number-requires c κs = search needs
+
+slice-reshare-prefix-is-true : tie.Need-slice-reshare-prefix-is-true Inv-loop μ-loop
+slice-reshare-prefix-is-true c = search needs
+
+slice-aggregate-is-true : tie.Need-slice-aggregate-is-true Inv-loop μ-loop
+slice-aggregate-is-true c = sym (length-take-le _ _ (search needs))
+
+is-true-requires : tie.Need-is-true-requires Inv-loop μ-loop
+unfolding recordAt
+is-true-requires c κs = rw (c .before .number .ensures) (judging (c .before .before .before .before .before .pre .0) (c .before .before .before .before .before .pre .1) (c .before .before .before .loop .inv) (c .before .before .loop-test .taken))
+
+bit-requires : tie.Need-bit-requires Inv-loop μ-loop
+bit-requires c κs = search needs
+
+mul-t11 : tie.Need-mul-t11 Inv-loop μ-loop
+mul-t11 c = search needs
+
+slice-set-from-out : tie.Need-slice-set-from-out Inv-loop μ-loop
+slice-set-from-out c = search needs
+
+add-k : tie.Need-add-k Inv-loop μ-loop
+add-k c = search needs
+
+loop-less : tie.Need-loop-less Inv-loop μ-loop
+loop-less c = search needs
+
+loop-again : tie.Need-loop-again Inv-loop μ-loop
+unfolding recordAt
+loop-again c = more _ _ _ _ _ _ _ (c .before .before .before .before .before .loop .inv) (c .before .before .before .before .loop-test .taken) (back-of (c .bit .result) (c .bit .ok) ∙ c .bit .ensures ∙ ap bit (rw (c .before .before .before .number .ensures) at (c .before .is-true .ensures)))
+
+same-length : tie.Need-same-length Inv-loop μ-loop
+same-length c = search needs
+
+returns : tie.Need-returns Inv-loop μ-loop
+returns c = done _ _ _ _ _ (c .before .loop .inv) (c .loop-test .left)
+
+pub fill-verdicts-spec : {M : Type 1} → statement M
+fill-verdicts-spec =
+    tie.close
+    (tie.spec
+    Inv-loop
+    μ-loop
+    add-first
+    loop-holds
+    add-number
+    number-requires
+    slice-reshare-prefix-is-true
+    slice-aggregate-is-true
+    is-true-requires
+    bit-requires
+    mul-t11
+    slice-set-from-out
+    add-k
+    loop-less
+    loop-again
+    same-length
+    returns)

@@ -1,0 +1,4 @@
+pub mod Exprs
+pub mod Values
+pub mod Sizes
+pub mod Verdicts
