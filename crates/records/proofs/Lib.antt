@@ -6,3 +6,4 @@ pub mod FactLaws
 pub mod NodeLaws
 pub mod RuleLaws
 pub mod FlowLaws
+pub mod OperationLaws

@@ -1,0 +1,94 @@
+-- `operation::choose` meets its contract: the walk passes the outcomes that are not applicable. Assumes nothing.
+use Rattle.operation.proofs.FirstOutcome.{Passed, Checked, unchecked, checked-more, outset, few, another, nothing, reads, ends-early, blocked, found}
+use mathlib.Core.Path.{refl}
+use Rattle.words.specs.Record.{recordAt}
+use lib.Dec.{lit<}
+use Rattle.operation.proofs.Targets.{outcomes-is, has-flag, clear}
+use native.Mathlib.Omega.{arith}
+use Prim.Native.Nat.{_-_}
+use Rattle.operation.proofs.choose.Statement.{statement}
+use Rattle.operation.proofs.choose.Tie as tie
+
+abbrev Inv-loop : tie.InvT-loop
+Inv-loop s h states o outcomes at₀ j₀ found stop d₀ at j d = Checked s h found at₀ j₀ stop at j d
+
+abbrev μ-loop : tie.MeasureT-loop
+μ-loop s h states o outcomes at₀ j₀ found stop d₀ at j d = stop - d
+
+abbrev Inv-outcomes : tie.InvT-outcomes
+Inv-outcomes s h states o outcomes at₀ j₀ at j = Passed s h states (o .0) j at
+
+abbrev μ-outcomes : tie.MeasureT-outcomes
+μ-outcomes s h states o outcomes at₀ j₀ at j = outcomes - j
+
+effects-of-requires : tie.Need-effects-of-requires Inv-loop μ-loop Inv-outcomes μ-outcomes
+effects-of-requires c κs = (c .pre .accepted, c .pre .exists)
+
+outcomes-holds : tie.Need-outcomes-holds Inv-loop μ-loop Inv-outcomes μ-outcomes
+outcomes-holds c = outset (c .before .pre) _ (c .effects-of .ensures)
+
+slice-aggregate-collect : tie.Need-slice-aggregate-collect Inv-loop μ-loop Inv-outcomes μ-outcomes
+slice-aggregate-collect c = refl
+
+collect-requires : tie.Need-collect-requires Inv-loop μ-loop Inv-outcomes μ-outcomes
+collect-requires c κs = (c .before .before .before .before .pre, (c .before .before .outcomes .inv .start, clear))
+
+loop-holds : tie.Need-loop-holds Inv-loop μ-loop Inv-outcomes μ-outcomes
+loop-holds c = unchecked _ _ _ _ _ _ (c .before .collect .ensures .order)
+
+effect-word-requires : tie.Need-effect-word-requires Inv-loop μ-loop Inv-outcomes μ-outcomes
+effect-word-requires c κs = (c .before .before .before .before .before .before .before .before .pre .accepted .sized, (reads (c .before .before .before .before .before .before .before .before .pre) _ _ _ _ (c .before .before .before .before .before .before .outcomes .inv) (c .before .before .before .collect .ensures) _ (c .before .loop .inv .order) (c .loop-test .taken) .exists, lit< tt))
+
+array-read-if2 : tie.Need-array-read-if2 Inv-loop μ-loop Inv-outcomes μ-outcomes
+unfolding recordAt
+array-read-if2 c = rw (c .effect-word .ensures) (has-flag (reads (c .before .before .before .before .before .before .before .before .before .pre) _ _ _ _ (c .before .before .before .before .before .before .before .outcomes .inv) (c .before .before .before .before .collect .ensures) _ (c .before .before .loop .inv .order) (c .before .loop-test .taken)))
+
+add-j : tie.Need-add-j Inv-loop μ-loop Inv-outcomes μ-outcomes
+add-j c = omega (arith, c .before .before .before .loop .inv .same-j, few (c .before .before .before .before .before .before .before .before .before .before .pre) _ _ (c .before .before .before .before .before .before .before .before .outcomes .inv))
+
+outcomes-less : tie.Need-outcomes-less Inv-loop μ-loop Inv-outcomes μ-outcomes
+outcomes-less c = omega (arith, c .before .before .before .loop .inv .same-j, outcomes-is _ _ _ _ (c .before .before .before .before .before .before .before .before .before .effects-of .ensures), another (c .before .before .before .before .before .before .before .before .before .before .pre) _ (c .before .before .before .before .before .before .before .before .before .effects-of .ensures) _ _ (c .before .before .before .before .before .before .before .before .outcomes .inv) (c .before .before .before .before .before .before .before .if1 .left))
+
+outcomes-again : tie.Need-outcomes-again Inv-loop μ-loop Inv-outcomes μ-outcomes
+unfolding recordAt
+outcomes-again c = blocked (c .before .before .before .before .before .before .before .before .before .before .pre) _ _ _ _ (c .before .before .before .before .before .before .before .before .outcomes .inv) (c .before .before .before .before .before .collect .ensures) _ _ _ _ (c .before .before .before .loop .inv) (c .before .before .loop-test .taken) (another (c .before .before .before .before .before .before .before .before .before .before .pre) _ (c .before .before .before .before .before .before .before .before .before .effects-of .ensures) _ _ (c .before .before .before .before .before .before .before .before .outcomes .inv) (c .before .before .before .before .before .before .before .if1 .left)) (c .before .effect-word .ensures) (c .if2 .taken)
+
+add-d : tie.Need-add-d Inv-loop μ-loop Inv-outcomes μ-outcomes
+add-d c = omega (arith, ends-early (c .before .before .before .before .before .before .before .before .before .before .pre) _ _ _ _ (c .before .before .before .before .before .before .before .before .outcomes .inv) (c .before .before .before .before .before .collect .ensures))
+
+loop-less : tie.Need-loop-less Inv-loop μ-loop Inv-outcomes μ-outcomes
+loop-less c = omega arith
+
+loop-again : tie.Need-loop-again Inv-loop μ-loop Inv-outcomes μ-outcomes
+unfolding recordAt
+loop-again c = checked-more _ _ _ _ _ _ _ _ _ _ (c .before .before .before .loop .inv) (c .before .before .loop-test .taken) (c .before .effect-word .ensures) (c .if2 .left)
+
+returns : tie.Need-returns Inv-loop μ-loop Inv-outcomes μ-outcomes
+returns c = nothing (c .before .before .before .pre) _ (c .before .before .effects-of .ensures) _ _ (c .before .outcomes .inv) (c .if1 .taken)
+
+returns-2 : tie.Need-returns-2 Inv-loop μ-loop Inv-outcomes μ-outcomes
+returns-2 c = found (c .before .before .before .before .before .before .before .before .pre) _ _ _ _ (c .before .before .before .before .before .before .outcomes .inv) (c .before .before .before .collect .ensures) _ _ _ (c .before .loop .inv) (c .loop-test .left) (another (c .before .before .before .before .before .before .before .before .pre) _ (c .before .before .before .before .before .before .before .effects-of .ensures) _ _ (c .before .before .before .before .before .before .outcomes .inv) (c .before .before .before .before .before .if1 .left))
+
+pub choose-spec : {M : Type 1} → statement M
+choose-spec =
+    tie.close
+    (tie.spec
+    Inv-loop
+    μ-loop
+    Inv-outcomes
+    μ-outcomes
+    effects-of-requires
+    outcomes-holds
+    slice-aggregate-collect
+    collect-requires
+    loop-holds
+    effect-word-requires
+    array-read-if2
+    add-j
+    outcomes-less
+    outcomes-again
+    add-d
+    loop-less
+    loop-again
+    returns
+    returns-2)

@@ -1,0 +1,56 @@
+-- What the inner functions ask and answer. The definitions of the other files do not rest on these.
+-- Assumes nothing.
+use mathlib.Core.Path.{_≡_}
+use mathlib.Core.Bool.{Bool, true, false, not, cond, _&&_}
+use mathlib.Core.List.{List}
+use Prim.Native.Nat.{ℕ, _+_, _≤_, _<_}
+use lib.IntN.{ℤ, pos}
+use lib.ListN.{length, getD, set}
+use Rattle.tables.specs.Table.{marked}
+use Rattle.words.specs.declared.Record.{Record}
+use Rattle.layout.specs.declared.Header.{Header}
+use Rattle.layout.specs.Tables.{operation, effect}
+use Rattle.records.specs.Accepted.{Accepted}
+use Rattle.records.specs.Operations.{effectsEnd, outcome}
+use Rattle.operation.specs.declared.Effects.{Effects}
+use Rattle.operation.specs.Outcomes.{ofOutcome, starts, matched}
+
+-- an operation's effects
+unfoldable pub effectsOf : List ℤ → Header → ℕ → Effects
+effectsOf s h o = record { first = operation s h o .w2; end = effectsEnd s h o; outcomes = operation s h o .w4 }
+
+-- there is an effect e, and a state for each entity
+pub record Read (s : List ℤ) (h : Header) (states : List ℤ) (e : ℕ) : Type 0 where
+  pub accepted : Accepted s h
+  pub long : length states ≡ h .entities
+  pub exists : e < h .effects
+
+-- outcome j of operation o starts at effect `at`: the operation's effects before it are of earlier outcomes, the others of j and later ones
+pub record At (s : List ℤ) (h : Header) (o j at : ℕ) : Type 0 where
+  pub low : operation s h o .w2 ≤ at
+  pub high : at ≤ effectsEnd s h o
+  pub before : (e : ℕ) → operation s h o .w2 ≤ e → e < at → outcome s h e < j
+  pub from : (e : ℕ) → at ≤ e → e < effectsEnd s h o → j ≤ outcome s h e
+
+-- a flag for each entity there may be, none of them set
+pub record Clear (flags : List Bool) : Type 0 where
+  pub long : length flags ≡ 32
+  pub each : (n : ℕ) → n < 32 → getD flags n false ≡ false
+
+-- the effects of outcome j are those from `at` up to `stop`, where the next outcome starts; the flags say which entities are matched
+pub record Collected (s : List ℤ) (h : Header) (states : List ℤ) (o j at stop : ℕ) (flags : List Bool) : Type 0 where
+  pub next : At s h o (j + 1) stop
+  pub order : at ≤ stop
+  pub inside : (e : ℕ) → at ≤ e → e < stop → ofOutcome s h o j e ≡ true
+  pub only : (e : ℕ) → ofOutcome s h o j e ≡ true → (at ≤ e) × (e < stop)
+  pub long : length flags ≡ 32
+  pub each : (n : ℕ) → n < 32 → getD flags n false ≡ matched s h states o j n
+
+-- an effect is taken: its entity has not moved yet, and it starts from the entity's state
+unfoldable pub taken : List ℤ → List Bool → Record → Bool
+taken states moved r = not (getD moved (r .w0) false) && starts states r
+
+-- effect e has been looked at: where it is taken, its entity is in the state that it leads to, and is flagged as moved
+pub record Shifted (s : List ℤ) (h : Header) (e : ℕ) (states : List ℤ) (moved : List Bool) (states′ : List ℤ) (moved′ : List Bool) : Type 0 where
+  pub state : states′ ≡ cond (taken states moved (effect s h e)) (set states (effect s h e .w0) (pos (effect s h e .w2))) states
+  pub flag : moved′ ≡ marked (taken states moved (effect s h e)) (effect s h e .w0) moved

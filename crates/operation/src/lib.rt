@@ -1,0 +1,222 @@
+// One operation on the lent states, below the ladder of refusals: refusals 8, 9 and 11, and the states afterwards.
+ghost use mathlib.Core.Path.{_≡_};
+ghost use Prim.Native.Nat.{_+_, _<_};
+ghost use lib.ListN.{length};
+ghost use Rattle.words.specs.Record.{number};
+ghost use Rattle.layout.specs.Header.{firstOperation, firstEffect};
+ghost use Rattle.layout.specs.Sized.{Sized};
+ghost use Rattle.layout.specs.Tables.{effect};
+ghost use Rattle.records.specs.Accepted.{Accepted};
+ghost use Rattle.operation.specs.Mask.{inMask, allowed};
+ghost use Rattle.operation.specs.States.{statesFault};
+ghost use Rattle.operation.specs.Outcomes.{starts, chosen};
+ghost use Rattle.operation.specs.Changes.{applied, performed};
+ghost use Rattle.operation.specs.Ready.{Ready};
+ghost use Rattle.operation.specs.Inner.{effectsOf, Read, At, Clear, Collected, Shifted};
+use answer::Refusal;
+use answer::Status;
+use layout::Header;
+use layout::Operation;
+use layout::Persona;
+use signed::to_word;
+use words::number;
+use words::number_at;
+
+// What an operation comes to: the number of the first applicable outcome, or none.
+pub enum Choice {
+    Outcome(usize),
+    Nothing,
+}
+
+// An operation's effects: their numbers run from first up to end, in so many outcomes.
+struct Effects {
+    pub first: usize,
+    pub end: usize,
+    pub outcomes: usize,
+}
+
+// Whether bit p of the mask is set.
+pub fn in_mask(mask: usize, p: usize) -> bool
+    requires { ⌜ p < 64 ⌝ }
+    ensures { λ b. ⌜ b ≡ inMask mask p ⌝ }
+{
+    (mask >> p) % 2 == 1
+}
+
+// Word j of an operation's record.
+fn operation_word(s: &[i64], h: Header, o: Operation, j: usize) -> usize
+    requires { ⌜ Sized (now s) h ⌝ }
+    requires { ⌜ (o .0 < h .operations) × (j < 8) ⌝ }
+    ensures { λ r. ⌜ r ≡ number (now (s .entry)) (firstOperation h + o .0) j ⌝ }
+{
+    number(s, h.first_operation() + o.0, j)
+}
+
+// Refusal 9 is given exactly where this is false.
+pub fn allows(s: &[i64], h: Header, o: Operation, p: Persona) -> bool
+    requires { ⌜ Sized (now s) h ⌝ }
+    requires { ⌜ (o .0 < h .operations) × (p .0 < h .personas) ⌝ }
+    ensures { λ b. ⌜ b ≡ allowed (now (s .entry)) h (o .0) (p .0) ⌝ }
+{
+    let bit = p.0;
+    in_mask(operation_word(s, h, o, 0), bit)
+}
+
+// Refusal 8, or Done.
+pub fn judge_states(s: &[i64], h: Header, states: &[i64]) -> Status
+    requires { ⌜ Sized (now s) h ⌝ }
+    requires { ⌜ length (now states) ≡ h .entities ⌝ }
+    ensures { λ r. ⌜ r ≡ statesFault (now (s .entry)) h (now (states .entry)) ⌝ }
+{
+    let base = h.facts + h.nodes + h.rules;
+    let mut n = 0;
+    while n < h.entities {
+        let count = number(s, base + n, 0);
+        let state = number_at(states, n);
+        if count <= state {
+            return Status::Refused(Refusal::State(n));
+        }
+        n += 1;
+    }
+    Status::Done
+}
+
+fn effects_of(s: &[i64], h: Header, o: Operation) -> Effects
+    requires { ⌜ Accepted (now s) h ⌝ }
+    requires { ⌜ o .0 < h .operations ⌝ }
+    ensures { λ r. ⌜ r ≡ effectsOf (now (s .entry)) h (o .0) ⌝ }
+{
+    let first = operation_word(s, h, o, 2);
+    Effects {
+        first,
+        end: first + operation_word(s, h, o, 3),
+        outcomes: operation_word(s, h, o, 4),
+    }
+}
+
+// Word j of effect e's record.
+fn effect_word(s: &[i64], h: Header, e: usize, j: usize) -> usize
+    requires { ⌜ Sized (now s) h ⌝ }
+    requires { ⌜ (e < h .effects) × (j < 8) ⌝ }
+    ensures { λ r. ⌜ r ≡ number (now (s .entry)) (firstEffect h + e) j ⌝ }
+{
+    number(s, h.first_operation() + h.operations + e, j)
+}
+
+// Whether effect e starts from its entity's present state.
+fn starts(s: &[i64], h: Header, states: &[i64], e: usize) -> bool
+    requires { ⌜ Read (now s) h (now states) e ⌝ }
+    ensures { λ b. ⌜ b ≡ starts (now (states .entry)) (effect (now (s .entry)) h e) ⌝ }
+{
+    let n = effect_word(s, h, e, 0);
+    effect_word(s, h, e, 1) == number_at(states, n)
+}
+
+// Sets the flags of the entities that outcome j matches. Its effects start at `at`; the answer is where they end.
+fn collect(
+    s: &[i64],
+    h: Header,
+    states: &[i64],
+    found: &mut [bool],
+    o: Operation,
+    at: usize,
+    j: usize,
+) -> usize
+    requires { ⌜ Ready (now s) h (now states) (o .0) ⌝ }
+    requires { ⌜ At (now s) h (o .0) j at × Clear (now found) ⌝ }
+    ensures { λ r. ⌜ Collected (now (s .entry)) h (now (states .entry)) (o .0) j at r (now (found .exit)) ⌝ }
+{
+    let effects = effects_of(s, h, o);
+    let end = effects.end;
+    let mut e = at;
+    while e < end {
+        let out = effect_word(s, h, e, 3);
+        if out != j {
+            return e;
+        }
+        let on = starts(s, h, states, e);
+        let n = effect_word(s, h, e, 0);
+        found[n] = found[n] | on;
+        e += 1;
+    }
+    e
+}
+
+// The first applicable outcome. Outcomes ascend along the effects, so those of one outcome stand together and the walk goes along them.
+pub fn choose(s: &[i64], h: Header, states: &[i64], o: Operation) -> Choice
+    requires { ⌜ Ready (now s) h (now states) (o .0) ⌝ }
+    ensures { λ r. ⌜ r ≡ chosen (now (s .entry)) h (now (states .entry)) (o .0) ⌝ }
+{
+    let effects = effects_of(s, h, o);
+    let outcomes = effects.outcomes;
+    let mut at = effects.first;
+    let mut j = 0;
+    'outcomes: loop {
+        if j == outcomes {
+            break Choice::Nothing;
+        }
+        let mut found = [false; 32];
+        let stop = collect(s, h, states, &mut found, o, at, j);
+        let mut d = at;
+        while d < stop {
+            let n = effect_word(s, h, d, 0);
+            if !found[n] {
+                // No effect of this outcome starts from the entity's state: on to the next outcome.
+                at = stop;
+                j += 1;
+                continue 'outcomes;
+            }
+            d += 1;
+        }
+        break Choice::Outcome(j);
+    }
+}
+
+// Applies effect e where it starts from the state of an entity that has not moved, and flags that entity as moved.
+fn shift(s: &[i64], h: Header, states: &mut [i64], moved: &mut [bool], e: usize)
+    requires { ⌜ Read (now s) h (now states) e ⌝ }
+    requires { ⌜ length (now moved) ≡ 32 ⌝ }
+    ensures { λ r. ⌜ Shifted (now (s .entry)) h e (now (states .entry)) (now (moved .entry)) (now (states .exit)) (now (moved .exit)) ⌝ }
+{
+    let n = effect_word(s, h, e, 0);
+    let on = !moved[n] & starts(s, h, states, e);
+    if on {
+        states[n] = to_word(effect_word(s, h, e, 2));
+        moved[n] = true;
+    }
+}
+
+// Applies outcome j of the operation, each effect by the states as they were lent.
+pub fn apply(s: &[i64], h: Header, states: &mut [i64], o: Operation, j: usize)
+    requires { ⌜ Ready (now s) h (now states) (o .0) ⌝ }
+    ensures { λ r. ⌜ now (states .exit) ≡ applied (now (s .entry)) h (now (states .entry)) (o .0) j ⌝ }
+{
+    let effects = effects_of(s, h, o);
+    let end = effects.end;
+    // An entity moves once: an effect that starts from the state it moved to is not applied.
+    let mut moved = [false; 32];
+    let mut e = effects.first;
+    while e < end {
+        let out = effect_word(s, h, e, 3);
+        if out != j {
+            e += 1;
+            continue;
+        }
+        shift(s, h, states, &mut moved, e);
+        e += 1;
+    }
+}
+
+// The whole operation: the first applicable outcome is applied; where there is none, the states stay.
+pub fn perform(s: &[i64], h: Header, states: &mut [i64], o: Operation) -> Choice
+    requires { ⌜ Ready (now s) h (now states) (o .0) ⌝ }
+    ensures { λ r. ⌜ r ≡ chosen (now (s .entry)) h (now (states .entry)) (o .0) ⌝ }
+    ensures { λ r. ⌜ now (states .exit) ≡ performed (now (s .entry)) h (now (states .entry)) (o .0) ⌝ }
+{
+    let choice = choose(s, h, states, o);
+    match choice {
+        Choice::Outcome(j) => apply(s, h, states, o, j),
+        Choice::Nothing => {}
+    }
+    choice
+}
