@@ -3,6 +3,7 @@ ghost use mathlib.Core.Path.{_≡_};
 ghost use lib.ListN.{length};
 ghost use Rattle.answer.specs.Answers.{statusAnswer, countAnswer};
 ghost use Rattle.records.specs.Accept.{checked};
+ghost use Rattle.evaluate.specs.Calls.{assembleAnswer, assembleValues, verdictsAnswer, verdictsBuffer, operateAnswer, operateStates};
 ghost use Rattle.text.specs.Calls.{readAnswer, readBuffer, writeAnswer, writeBuffer};
 use answer::Answer;
 use answer::of_count;
@@ -32,4 +33,43 @@ pub extern "C" fn fernpocket_write_text(words: &[i64], text: &mut [u8]) -> Answe
     ensures { λ _. ⌜ now (text .exit) ≡ writeBuffer (now (words .entry)) (now (text .entry)) ⌝ }
 {
     of_count(text::write(words, text))
+}
+
+// Fact assembly: the defaults are put into the lent values.
+#[no_mangle]
+pub extern "C" fn fernpocket_assemble(sheet: &[i64], values: &mut [i64], given: &[i64]) -> Answer
+    ensures { λ a. ⌜ a ≡ statusAnswer (assembleAnswer (now (sheet .entry)) (now (values .entry)) (now (given .entry))) ⌝ }
+    ensures { λ _. ⌜ now (values .exit) ≡ assembleValues (now (sheet .entry)) (now (values .entry)) (now (given .entry)) ⌝ }
+{
+    of_status(evaluate::assemble(sheet, values, given))
+}
+
+// The verdicts over the lent facts.
+#[no_mangle]
+pub extern "C" fn fernpocket_verdicts(
+    sheet: &[i64],
+    values: &[i64],
+    given: &[i64],
+    verdicts: &mut [i64],
+) -> Answer
+    ensures { λ a. ⌜ a ≡ statusAnswer (verdictsAnswer (now (sheet .entry)) (now (values .entry)) (now (given .entry)) (length (now (verdicts .entry)))) ⌝ }
+    ensures { λ _. ⌜ now (verdicts .exit) ≡ verdictsBuffer (now (sheet .entry)) (now (values .entry)) (now (given .entry)) (now (verdicts .entry)) ⌝ }
+{
+    of_status(evaluate::verdicts(sheet, values, given, verdicts))
+}
+
+// One operation by a persona. The number answered is the outcome.
+#[no_mangle]
+pub extern "C" fn fernpocket_operate(
+    sheet: &[i64],
+    values: &[i64],
+    given: &[i64],
+    states: &mut [i64],
+    persona: i64,
+    operation: i64,
+) -> Answer
+    ensures { λ a. ⌜ a ≡ countAnswer (operateAnswer (now (sheet .entry)) (now (values .entry)) (now (given .entry)) (now (states .entry)) persona operation) ⌝ }
+    ensures { λ _. ⌜ now (states .exit) ≡ operateStates (now (sheet .entry)) (now (values .entry)) (now (given .entry)) (now (states .entry)) persona operation ⌝ }
+{
+    of_count(evaluate::operate(sheet, values, given, states, persona, operation))
 }

@@ -12,6 +12,7 @@ use borrow.Author.Tests.{lt-ltb, le-ltb, ltb-true}
 use Rattle.tables.proofs.Scanned.{stopped, ended, step, first-fail, first-scan}
 use Rattle.answer.specs.declared.Refusal.the-variants.{State}
 use Rattle.answer.specs.declared.Status.the-variants.{Done, Refused}
+use Rattle.answer.specs.Answers.{SmallStatus}
 use Rattle.layout.specs.declared.Header.{Header}
 use Rattle.records.specs.Entities.{states as stateCount}
 use Rattle.operation.specs.States.{present, stateIn, firstStray, statesFault, StatesIn}
@@ -57,3 +58,12 @@ module _ (s : List ℤ) (h : Header) (states : List ℤ) where
   pub in-states : StatesIn s h states → statesFault s h states ≡ Done
   unfolding stateIn
   in-states r = sym (all-in (h .entities) (record { here = omega arith; each = λ k p l. lt-ltb _ _ (r .each k l) }) (omega arith))
+
+  -- the place of refusal 8 is an entity's number, which a word holds
+  pub stray-small : h .entities ≤ 32 → SmallStatus (statesFault s h states)
+  unfolding statesFault
+  stray-small b = go (decLt (firstStray s h states) (h .entities))
+    where
+      go : Dec (firstStray s h states < h .entities) → SmallStatus (statesFault s h states)
+      go (yes l) = rw (lt-ltb (firstStray s h states) (h .entities) l) (omega arith)
+      go (no x) = rw (le-ltb (firstStray s h states) (h .entities) (omega arith)) tt

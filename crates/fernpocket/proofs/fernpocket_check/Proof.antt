@@ -1,5 +1,5 @@
 -- `fernpocket::fernpocket_check` meets its contract. Assumes nothing.
-use Rattle.fernpocket.proofs.Small.{checked-small}
+use Rattle.ladder.proofs.Small.{checked-small}
 use Rattle.answer.specs.Answers.{statusAnswer}
 use mathlib.Core.Path.{ap, _∙_}
 use Rattle.fernpocket.proofs.fernpocket_check.Statement.{statement}

@@ -1,0 +1,24 @@
+-- `evaluate::settle` meets its contract: the facts, then the verdicts over them. Assumes nothing.
+use Rattle.evaluate.proofs.EvaluateLaws.{known-in}
+use borrow.Author.Needs.{needs}
+use Rattle.evaluate.proofs.settle.Statement.{statement}
+use Rattle.evaluate.proofs.settle.Tie as tie
+
+assemble-requires : tie.Need-assemble-requires
+assemble-requires c κs = search needs
+
+fill-verdicts-requires : tie.Need-fill-verdicts-requires
+fill-verdicts-requires c κs = (c .before .before .before .before .before .pre .0 .sheet, rw (c .before .before .before .assemble .ensures) (known-in (c .before .before .before .before .before .pre .0)), c .before .before .before .before .before .pre .1 .1)
+
+same-length : tie.Need-same-length
+same-length c = search needs
+
+same-length-2 : tie.Need-same-length-2
+same-length-2 c = search needs
+
+returns : tie.Need-returns
+returns c = (c .before .before .before .before .before .assemble .ensures, rw (c .before .before .before .before .before .assemble .ensures) at (c .before .fill-verdicts .ensures))
+
+pub settle-spec : {M : Type 1} → statement M
+settle-spec =
+    tie.close (tie.spec assemble-requires fill-verdicts-requires same-length same-length-2 returns)
