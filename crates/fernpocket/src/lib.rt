@@ -1,13 +1,15 @@
 // The public calls, as C links them: include/fernpocket.h says what each answers.
 ghost use mathlib.Core.Path.{_≡_};
 ghost use lib.ListN.{length};
-ghost use Rattle.answer.specs.Answers.{statusAnswer, countAnswer};
+ghost use Rattle.answer.specs.Answers.{statusAnswer, countAnswer, walkAnswer};
 ghost use Rattle.records.specs.Accept.{checked};
 ghost use Rattle.evaluate.specs.Calls.{assembleAnswer, assembleValues, verdictsAnswer, verdictsBuffer, operateAnswer, operateStates};
+ghost use Rattle.flows.specs.Calls.{firstCall, firstLeft, nextCall, nextLeft, runCall, runPathLeft, runStatesLeft};
 ghost use Rattle.text.specs.Calls.{readAnswer, readBuffer, writeAnswer, writeBuffer};
 use answer::Answer;
 use answer::of_count;
 use answer::of_status;
+use answer::of_walk;
 
 // The sheet checker.
 #[no_mangle]
@@ -72,4 +74,39 @@ pub extern "C" fn fernpocket_operate(
     ensures { λ _. ⌜ now (states .exit) ≡ operateStates (now (sheet .entry)) (now (values .entry)) (now (given .entry)) (now (states .entry)) persona operation ⌝ }
 {
     of_count(evaluate::operate(sheet, values, given, states, persona, operation))
+}
+
+// One run of a flow. The numbers answered are the terminal and the path's length.
+#[no_mangle]
+pub extern "C" fn fernpocket_run(
+    sheet: &[i64],
+    values: &[i64],
+    given: &[i64],
+    states: &mut [i64],
+    flow: i64,
+    path: &mut [u16],
+) -> Answer
+    ensures { λ a. ⌜ a ≡ walkAnswer (runCall (now (sheet .entry)) (now (values .entry)) (now (given .entry)) (now (states .entry)) flow (now (path .entry))) ⌝ }
+    ensures { λ _. ⌜ now (path .exit) ≡ runPathLeft (now (sheet .entry)) (now (values .entry)) (now (given .entry)) (now (states .entry)) flow (now (path .entry)) ⌝ }
+    ensures { λ _. ⌜ now (states .exit) ≡ runStatesLeft (now (sheet .entry)) (now (values .entry)) (now (given .entry)) (now (states .entry)) flow (now (path .entry)) ⌝ }
+{
+    of_walk(flows::run(sheet, values, given, states, flow, path))
+}
+
+// S6: path 0 of a flow.
+#[no_mangle]
+pub extern "C" fn fernpocket_first(sheet: &[i64], flow: i64, path: &mut [u16]) -> Answer
+    ensures { λ a. ⌜ a ≡ walkAnswer (firstCall (now (sheet .entry)) flow (now (path .entry))) ⌝ }
+    ensures { λ _. ⌜ now (path .exit) ≡ firstLeft (now (sheet .entry)) flow (now (path .entry)) ⌝ }
+{
+    of_walk(flows::first(sheet, flow, path))
+}
+
+// S6: the path of a flow that follows the one at the buffer's head.
+#[no_mangle]
+pub extern "C" fn fernpocket_next(sheet: &[i64], flow: i64, path: &mut [u16]) -> Answer
+    ensures { λ a. ⌜ a ≡ walkAnswer (nextCall (now (sheet .entry)) flow (now (path .entry))) ⌝ }
+    ensures { λ _. ⌜ now (path .exit) ≡ nextLeft (now (sheet .entry)) flow (now (path .entry)) ⌝ }
+{
+    of_walk(flows::next(sheet, flow, path))
 }

@@ -118,7 +118,7 @@ module _ {s : List ℤ} {h : Header} {f : ℕ} {b : List ℕ} (u : Lent s h f b)
 
   -- ---- every list of calls
 
-  held-length : (n : ℕ) (t : State) → Listed s h f b n t → length (t .buffer) ≡ length b
+  pub held-length : (n : ℕ) (t : State) → Listed s h f b n t → length (t .buffer) ≡ length b
   held-length n t r =
       ap length (r .holds) ∙ length-laid (path s h f (min n (count s h f - 1))) b (fits (min n (count s h f - 1)) (omega (arith, some)))
 

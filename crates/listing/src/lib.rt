@@ -137,7 +137,7 @@ fn descend(s: &[i64], h: Header, from: Walker, path: &mut [u16]) -> Walker
 }
 
 // Writes 0 from entry `from` on.
-fn clear(path: &mut [u16], from: usize)
+pub fn clear(path: &mut [u16], from: usize)
     requires { ⌜ from ≤ length (now path) ⌝ }
     ensures { λ r. ⌜ now (path .exit) ≡ take from (now (path .entry)) ++ replicate (length (now (path .entry)) - from) 0 ⌝ }
 {

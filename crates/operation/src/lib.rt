@@ -29,7 +29,7 @@ pub enum Choice {
 }
 
 // An operation's effects: their numbers run from first up to end, in so many outcomes.
-struct Effects {
+pub struct Effects {
     pub first: usize,
     pub end: usize,
     pub outcomes: usize,
@@ -81,7 +81,7 @@ pub fn judge_states(s: &[i64], h: Header, states: &[i64]) -> Status
     Status::Done
 }
 
-fn effects_of(s: &[i64], h: Header, o: Operation) -> Effects
+pub fn effects_of(s: &[i64], h: Header, o: Operation) -> Effects
     requires { ⌜ Accepted (now s) h ⌝ }
     requires { ⌜ o .0 < h .operations ⌝ }
     ensures { λ r. ⌜ r ≡ effectsOf (now (s .entry)) h (o .0) ⌝ }

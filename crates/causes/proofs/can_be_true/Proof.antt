@@ -1,0 +1,39 @@
+-- `causes::can_be_true` meets its contract. Assumes nothing.
+use Rattle.signed.proofs.Fit.{back-of}
+use Rattle.causes.proofs.Causing.{range-read}
+use borrow.Author.Needs.{needs}
+use Rattle.causes.proofs.can_be_true.Statement.{statement}
+use Rattle.causes.proofs.can_be_true.Tie as tie
+
+first-operation-requires : tie.Need-first-operation-requires
+first-operation-requires c κs = search needs
+
+add-number : tie.Need-add-number
+add-number c = search needs
+
+number-requires : tie.Need-number-requires
+number-requires c κs = search needs
+
+word-entry-requires : tie.Need-word-entry-requires
+word-entry-requires c κs = search needs
+
+word-entry-requires-2 : tie.Need-word-entry-requires-2
+word-entry-requires-2 c κs = search needs
+
+within-requires : tie.Need-within-requires
+within-requires c κs = search needs
+
+returns : tie.Need-returns
+returns c = range-read (c .before .before .before .before .before .before .pre .0) _ (c .before .before .before .before .before .before .pre .1) _ _ _ _ _ (c .before .before .before .before .before .first-operation .ensures) (c .before .before .before .number .ensures) (c .before .before .word-entry .ensures) (c .before .word-entry2 .ensures) (rw (back-of (c .before .before .word-entry .result) (c .before .before .word-entry .ok), back-of (c .before .word-entry2 .result) (c .before .word-entry2 .ok)) at (c .within .ensures))
+
+pub can-be-true-spec : {M : Type 1} → statement M
+can-be-true-spec =
+    tie.close
+    (tie.spec
+    first-operation-requires
+    add-number
+    number-requires
+    word-entry-requires
+    word-entry-requires-2
+    within-requires
+    returns)

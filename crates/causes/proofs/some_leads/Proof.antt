@@ -1,0 +1,65 @@
+-- `causes::some_leads` meets its contract: none of the effects passed leads from the one state to the other. Assumes nothing.
+use native.Mathlib.Omega.{arith}
+use Prim.Native.Nat.{_-_}
+use Rattle.reach.specs.Moves.{leads}
+use Rattle.causes.proofs.Effects.{Missed, missed-more, outset, held, small, hit, none-hit}
+use borrow.Author.Needs.{needs}
+use Rattle.causes.proofs.some_leads.Statement.{statement}
+use Rattle.causes.proofs.some_leads.Tie as tie
+
+abbrev Inv-loop : tie.InvT-loop
+Inv-loop s from to end base entity e₀ e = Missed s (leads entity from to) base e₀ end e
+
+abbrev μ-loop : tie.MeasureT-loop
+μ-loop s from to end base entity e₀ e = end - e
+
+effects-of-requires : tie.Need-effects-of-requires Inv-loop μ-loop
+effects-of-requires c κs = search needs
+
+first-effect-requires : tie.Need-first-effect-requires Inv-loop μ-loop
+first-effect-requires c κs = search needs
+
+loop-holds : tie.Need-loop-holds Inv-loop μ-loop
+loop-holds c = outset (c .before .before .pre .0) _ (c .before .before .pre .1) _ (c .before .effects-of .ensures) _ (c .first-effect .ensures) _
+
+add-record-at : tie.Need-add-record-at Inv-loop μ-loop
+add-record-at c = omega (arith, small (c .before .before .before .before .pre .0) _ (c .before .before .before .before .pre .1) _ (c .before .before .before .effects-of .ensures) _ (c .before .before .first-effect .ensures) _ (c .loop-test .taken))
+
+record-at-requires : tie.Need-record-at-requires Inv-loop μ-loop
+record-at-requires c κs = held (c .before .before .before .before .pre .0) _ (c .before .before .before .before .pre .1) _ (c .before .before .before .effects-of .ensures) _ (c .before .before .first-effect .ensures) _ (c .loop-test .taken)
+
+leads-requires : tie.Need-leads-requires Inv-loop μ-loop
+leads-requires c κs = search needs
+
+returns : tie.Need-returns Inv-loop μ-loop
+returns c = hit (c .before .before .before .before .before .before .before .pre .0) _ (c .before .before .before .before .before .before .before .pre .1) _ (c .before .before .before .before .before .before .effects-of .ensures) _ (c .before .before .before .before .before .first-effect .ensures) _ _ _ _ (c .before .before .before .before .loop .inv) (c .before .before .before .loop-test .taken) (c .before .before .record-at .ensures) (c .before .leads .ensures) (c .if1 .taken)
+
+add-e : tie.Need-add-e Inv-loop μ-loop
+add-e c = search needs
+
+loop-less : tie.Need-loop-less Inv-loop μ-loop
+loop-less c = search needs
+
+loop-again : tie.Need-loop-again Inv-loop μ-loop
+loop-again c = missed-more _ _ _ _ _ _ _ _ (c .before .before .before .before .loop .inv) (c .before .before .before .loop-test .taken) (c .before .before .record-at .ensures) (c .before .leads .ensures) (c .if1 .left)
+
+returns-2 : tie.Need-returns-2 Inv-loop μ-loop
+returns-2 c = none-hit (c .before .before .before .before .pre .0) _ (c .before .before .before .before .pre .1) _ (c .before .before .before .effects-of .ensures) _ (c .before .before .first-effect .ensures) _ _ (c .before .loop .inv) (c .loop-test .left)
+
+pub some-leads-spec : {M : Type 1} → statement M
+some-leads-spec =
+    tie.close
+    (tie.spec
+    Inv-loop
+    μ-loop
+    effects-of-requires
+    first-effect-requires
+    loop-holds
+    add-record-at
+    record-at-requires
+    leads-requires
+    returns
+    add-e
+    loop-less
+    loop-again
+    returns-2)

@@ -1,0 +1,27 @@
+-- `fernpocket::fernpocket_run` meets its contract. Assumes nothing.
+use Rattle.flows.proofs.FlowCallLaws.{run-call-small}
+use Rattle.signed.proofs.Fit.{back}
+use Rattle.answer.specs.Answers.{walkAnswer}
+use mathlib.Core.Path.{ap, _∙_}
+use borrow.Author.Needs.{needs}
+use Rattle.fernpocket.proofs.fernpocket_run.Statement.{statement}
+use Rattle.fernpocket.proofs.fernpocket_run.Tie as tie
+
+run-requires : tie.Need-run-requires
+run-requires c κs = search needs
+
+of-walk-requires : tie.Need-of-walk-requires
+of-walk-requires c κs = rw (c .before .before .before .run .ensures .0) (run-call-small _ _ _ _ _ _)
+
+same-length : tie.Need-same-length
+same-length c = search needs
+
+same-length-2 : tie.Need-same-length-2
+same-length-2 c = search needs
+
+returns : tie.Need-returns
+returns c = (c .of-walk .ensures ∙ ap walkAnswer (rw (back (c .before .before .before .before .before .before .before .before .fits .flow)) at (c .before .before .before .before .run .ensures .0)), (rw (back (c .before .before .before .before .before .before .before .before .fits .flow)) at (c .before .before .before .before .run .ensures .1 .0), rw (back (c .before .before .before .before .before .before .before .before .fits .flow)) at (c .before .before .before .before .run .ensures .1 .1)))
+
+pub fernpocket-run-spec : {M : Type 1} → statement M
+fernpocket-run-spec =
+    tie.close (tie.spec run-requires of-walk-requires same-length same-length-2 returns)

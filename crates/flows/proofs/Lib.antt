@@ -1,0 +1,2 @@
+pub mod FlowCallLaws
+pub mod PublicListing

@@ -1,0 +1,91 @@
+-- Demand 3 of the public calls: over every list of first and next that starts with a first, and of every run by itself.
+-- Assumes nothing.
+use mathlib.Core.Path.{_≡_, refl, _∙_}
+use mathlib.Core.Bool.{true}
+use mathlib.Core.List.{List, [], _∷_}
+use Prim.Native.Nat.{ℕ, suc}
+use lib.IntN.{ℤ}
+use lib.ListN.{length}
+use native.Mathlib.Omega.{arith}
+use borrow.Author.Tests.{ltb-true, le-leb}
+use Rattle.signed.specs.Words.{num}
+use Rattle.answer.specs.declared.Status.{Status}
+use Rattle.answer.specs.declared.Status.the-variants.{Done, Refused}
+use Rattle.answer.specs.declared.Walk.the-variants.{Path as Walked, Refused as NoWalk}
+use Rattle.layout.specs.declared.Header.{Header}
+use Rattle.layout.specs.Header.{headerOf}
+use Rattle.records.proofs.Acceptance.{accepted}
+use Rattle.facts.specs.Assembled.{assembled}
+use Rattle.predicate.specs.Verdicts.{verdictsOf}
+use Rattle.listing.specs.Paths.{stepsOf}
+use Rattle.listing.specs.Calls.{Lent}
+use Rattle.listing.specs.Lists.{Call, First, Next, State, called, calledOn, nexts, Listed}
+use Rattle.listing.proofs.Listing.{calls-listed, listing, held-length}
+use Rattle.run.specs.Runs.{ran, runAnswer, runPath, Taken}
+use Rattle.run.proofs.RunPaths.{run-listed}
+use Rattle.ladder.proofs.Climb.{ladder-open, all-passed}
+use Rattle.flows.specs.Calls.{pathLent, flowLadder, firstCall, firstLeft, nextCall, nextLeft, runLadder, runCall, runPathLeft}
+use Rattle.flows.specs.PublicLists.{publicCall, publicCalls, Listable, TookPath}
+use Rattle.flows.proofs.FlowCallLaws.{path-judged, runnable, gone}
+
+-- ---- lists of calls
+
+module _ {s : List ℤ} {f : ℤ} {b : List ℕ} (u : Listable s f b) where
+  pub listable-lent : Lent s (headerOf s) (num f) b
+  listable-lent = record { sheet = accepted s (u .sheet); flow = ltb-true _ _ (u .flow); room = u .room }
+
+  -- nothing is refused by the ladder, on any buffer of that length
+  passes : (c : List ℕ) → length c ≡ length b → flowLadder s f (length c) ≡ Done
+  unfolding flowLadder
+  passes c e =
+      ladder-open s _ _ Done Done (u .sheet)
+      ∙ all-passed _ _ (path-judged s (headerOf s) f (length c) (u .flow) ∙ le-leb (stepsOf s (headerOf s) (num f)) (length c) (omega (arith, u .room, e))) (u .flow)
+
+  -- so a public call is the call below the ladder
+  call-below : (c : List ℕ) → length c ≡ length b → (k : Call) → publicCall s f c k ≡ called s (headerOf s) (num f) c k
+  unfolding publicCall called firstCall firstLeft nextCall nextLeft
+  call-below c e First = let z = passes c e in rw (z, publicCall, firstCall, firstLeft)
+  call-below c e Next = let z = passes c e in rw (z, publicCall, nextCall, nextLeft)
+
+  -- one call keeps what holds along a list
+  one-listed : (n : ℕ) (t : State) → Listed s (headerOf s) (num f) b n t → (k : Call)
+      → Listed s (headerOf s) (num f) b (nexts n (k ∷ [])) (publicCall s f (t .buffer) k)
+  unfolding calledOn
+  one-listed n t r k = rw (call-below (t .buffer) (held-length listable-lent n t r) k) (calls-listed listable-lent n t r (k ∷ []))
+
+  rest-listed : (n : ℕ) (t : State) → Listed s (headerOf s) (num f) b n t → (cs : List Call)
+      → Listed s (headerOf s) (num f) b (nexts n cs) (publicCalls s f t cs)
+  unfolding nexts publicCalls
+  rest-listed n t r [] = r
+  rest-listed n t r (First ∷ cs) = rest-listed 0 (publicCall s f (t .buffer) First) (one-listed n t r First) cs
+  rest-listed n t r (Next ∷ cs) = rest-listed (suc n) (publicCall s f (t .buffer) Next) (one-listed n t r Next) cs
+
+  -- the theorem: of every list of the public calls that starts with a first, refused ones included, whatever the buffer held before
+  pub public-listing : (cs : List Call) → Listed s (headerOf s) (num f) b (nexts 0 (First ∷ cs)) (publicCalls s f (publicCall s f b First) cs)
+  unfolding nexts calledOn
+  public-listing cs =
+      rest-listed 0 (publicCall s f b First) (rw (call-below b refl First) (listing listable-lent [])) cs
+
+-- ---- runs
+
+module _ (s values given states : List ℤ) (f : ℤ) (b : List ℕ) where
+  took : runLadder s values given states f (length b) ≡ Done → TookPath s values given states f b
+  unfolding runCall runPathLeft runPath
+  took e =
+      let facts = assembled s (headerOf s) values given in
+      let r = run-listed (runnable (gone s values given states f b e) refl refl) in
+      record {
+        path = ran s (headerOf s) facts (verdictsOf s (headerOf s) facts) states (num f) .path;
+        listed = r .listed;
+        left = rw (e, runPathLeft);
+        answers = rw (e, runCall) (r .answers);
+      }
+
+  -- any run that is not refused, whatever its facts and states, takes one of the listed paths
+  pub run-takes-path : (t n : ℕ) → runCall s values given states f b ≡ Walked t n → TookPath s values given states f b
+  unfolding runCall
+  run-takes-path t n e = go (runLadder s values given states f (length b)) refl
+    where
+      go : (q : Status) → runLadder s values given states f (length b) ≡ q → TookPath s values given states f b
+      go Done d = took d
+      go (Refused r) d = let z : _≡_ {A = ℕ} 0 1 = cc (rw (d, runCall) at e) in absurd (omega arith)

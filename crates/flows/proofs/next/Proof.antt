@@ -1,0 +1,32 @@
+-- `flows::next` meets its contract. Assumes nothing.
+use Rattle.signed.proofs.Fit.{back}
+use Rattle.flows.proofs.FlowCallLaws.{entered-in, in-lent, next-refused, next-done}
+use borrow.Author.Needs.{needs}
+use Rattle.flows.proofs.next.Statement.{statement}
+use Rattle.flows.proofs.next.Tie as tie
+
+enter-requires : tie.Need-enter-requires
+enter-requires c κs = search needs
+
+enum-known-r : tie.Need-enum-known-r
+enum-known-r c = search needs
+
+enum-known-h : tie.Need-enum-known-h
+enum-known-h c = search needs
+
+next-requires : tie.Need-next-requires
+next-requires c κs = in-lent _ _ _ (entered-in _ _ _ (rw (back (c .before .before .before .before .before .before .fits .flow)) at (c .before .before .before .before .enter .ensures)) (c .before .before .h .given .1))
+
+returns : tie.Need-returns
+returns c = next-refused _ _ _ (rw (back (c .before .before .before .before .before .fits .flow)) at (c .before .before .before .enter .ensures)) (c .before .r .given .1)
+
+same-length : tie.Need-same-length
+same-length c = search needs
+
+returns-2 : tie.Need-returns-2
+returns-2 c = next-done _ _ _ (entered-in _ _ _ (rw (back (c .before .before .before .before .before .before .before .before .before .fits .flow)) at (c .before .before .before .before .before .before .before .enter .ensures)) (c .before .before .before .before .before .h .given .1)) (c .before .before .next .ensures .0) (c .before .before .next .ensures .1)
+
+pub next-spec : {M : Type 1} → statement M
+next-spec =
+    tie.close
+    (tie.spec enter-requires enum-known-r enum-known-h next-requires returns same-length returns-2)

@@ -1,0 +1,63 @@
+-- `reach::scan` meets its contract: the flags say where the transitions passed lead. Assumes nothing.
+use Prim.Native.Nat.{_-_}
+use Rattle.reach.proofs.Spreading.{Spreading, none, more, done}
+use borrow.Author.Needs.{needs}
+use Rattle.reach.proofs.scan.Statement.{statement}
+use Rattle.reach.proofs.scan.Tie as tie
+
+abbrev Inv-loop : tie.InvT-loop
+Inv-loop s h state found₀ base entity k₀ found k = Spreading s h entity state found₀ k found
+
+abbrev μ-loop : tie.MeasureT-loop
+μ-loop s h state found₀ base entity k₀ found k = h .transitions - k
+
+first-transition-requires : tie.Need-first-transition-requires Inv-loop μ-loop
+first-transition-requires c κs = search needs
+
+loop-holds : tie.Need-loop-holds Inv-loop μ-loop
+loop-holds c = none _ _ _ _ _ (c .before .before .pre .1)
+
+add-record-at : tie.Need-add-record-at Inv-loop μ-loop
+add-record-at c = search needs
+
+record-at-requires : tie.Need-record-at-requires Inv-loop μ-loop
+record-at-requires c κs = search needs
+
+leaves-requires : tie.Need-leaves-requires Inv-loop μ-loop
+leaves-requires c κs = search needs
+
+mark-requires : tie.Need-mark-requires Inv-loop μ-loop
+mark-requires c κs = search needs
+
+add-k : tie.Need-add-k Inv-loop μ-loop
+add-k c = search needs
+
+loop-less : tie.Need-loop-less Inv-loop μ-loop
+loop-less c = search needs
+
+loop-again : tie.Need-loop-again Inv-loop μ-loop
+loop-again c = more _ _ _ _ _ _ _ (c .before .before .before .before .before .before .before .before .loop .inv) _ _ _ _ (c .before .before .before .before .before .before .if1 .taken) (c .before .before .before .before .before .before .before .before .before .first-transition .ensures) (c .before .before .before .before .before .record-at .ensures) (c .before .before .before .leaves .ensures) (c .before .before .mark .ensures)
+
+same-length : tie.Need-same-length Inv-loop μ-loop
+same-length c = search needs
+
+returns : tie.Need-returns Inv-loop μ-loop
+returns c = done _ _ _ _ _ _ _ (c .before .before .loop .inv) (c .if1 .left)
+
+pub scan-spec : {M : Type 1} → statement M
+scan-spec =
+    tie.close
+    (tie.spec
+    Inv-loop
+    μ-loop
+    first-transition-requires
+    loop-holds
+    add-record-at
+    record-at-requires
+    leaves-requires
+    mark-requires
+    add-k
+    loop-less
+    loop-again
+    same-length
+    returns)

@@ -1,0 +1,119 @@
+-- The loop of `run`: the rest of the same run is still to come, until it is finished.
+-- Assumes nothing.
+use mathlib.Core.Path.{_≡_, refl, sym, ap, subst, _∙_}
+use mathlib.Core.Bool.{true, false, not}
+use mathlib.Core.List.{List, _++_}
+use Prim.Native.Nat.{ℕ, suc, _+_, _-_, _≤_, _<_}
+use lib.IntN.{ℤ}
+use lib.ListN.{length, take, set, replicate, length-set}
+use lib.Seq.{take-suc-set, length-take-le}
+use native.Mathlib.Numerals.{add-one}
+use native.Mathlib.Omega.{arith}
+use borrow.Author.Tests.{not-true, not-false}
+use Rattle.answer.specs.declared.Walk.the-variants.{Path as Walked}
+use Rattle.layout.specs.declared.Header.{Header}
+use Rattle.layout.specs.Tables.{flow}
+use Rattle.records.specs.Flows.{flowOf}
+use Rattle.records.proofs.FlowLaws.{flow-ok, flow-of}
+use Rattle.operation.specs.States.{StatesIn}
+use Rattle.listing.specs.declared.Walker.{Walker}
+use Rattle.listing.specs.Paths.{stepsOf}
+use Rattle.listing.specs.Walkers.{started, taken}
+use Rattle.listing.specs.Calls.{laid}
+use Rattle.listing.proofs.Trails.{trail-going}
+use Rattle.listing.proofs.Walks.{going-room}
+use Rattle.run.specs.Runs.{routeTaken, statesThen, Running, begun, stepped, runOn, ran, runAnswer, runPath, runStates, Steppable, Runnable}
+use Rattle.run.proofs.StepLaws.{route-of, routes-end}
+use Rattle.run.proofs.RunPaths.{Held, held-begun, held-room, held-step, held-stepped, run-stops, run-steps}
+
+-- where the loop stands: the buffer's head has the routes taken
+abbrev pub running : List ℤ → List ℕ → Walker → Running
+running states path w = record { walker = w; path = take (w .length) path; states = states }
+
+-- the run of flow f from states₀ with the buffer b has come to states, path and w, and the rest of it is still to come
+pub record Ongoing (s : List ℤ) (h : Header) (facts verdicts states₀ : List ℤ) (f : ℕ) (b : List ℕ) (states : List ℤ) (path : List ℕ) (w : Walker) : Type 0 where
+  pub size : length path ≡ length b
+  pub held : Held s h f (running states path w)
+  pub rest : runOn s h facts verdicts (stepsOf s h f - w .length) (running states path w) ≡ ran s h facts verdicts states₀ f
+
+module _ {s : List ℤ} {h : Header} {facts verdicts states₀ : List ℤ} {f : ℕ} {b : List ℕ} {w₀ : Walker} (u : Runnable s h facts verdicts states₀ f b) (q₀ : w₀ ≡ started s h f) where
+  -- the loop knows the flow by its first step
+  its-flow : flowOf s h (w₀ .step) ≡ f
+  unfolding started
+  its-flow =
+      let l = u .lent .flow in
+      rw q₀ (flow-of s h (u .lent .sheet) f (flow s h f .w0) l (omega arith) (omega (arith, flow-ok s h (u .lent .sheet) f l .some)))
+
+  pub run-none : Ongoing s h facts verdicts states₀ (flowOf s h (w₀ .step)) b states₀ b w₀
+  unfolding started begun ran
+  run-none =
+      let z : stepsOf s h f - 0 ≡ stepsOf s h f = omega arith in
+      rw (its-flow, q₀) (record { size = refl; held = held-begun u; rest = ap (λ (n : ℕ). runOn s h facts verdicts n (begun s h f states₀)) z })
+
+  module _ {states : List ℤ} {path : List ℕ} {w : Walker} (g₀ : Ongoing s h facts verdicts states₀ (flowOf s h (w₀ .step)) b states path w) where
+    g : Ongoing s h facts verdicts states₀ f b states path w
+    g = subst (λ (k : ℕ). Ongoing s h facts verdicts states₀ k b states path w) its-flow g₀
+
+    pub run-valid : StatesIn s h states
+    run-valid = g .held .valid
+
+    pub run-short : w .length ≤ length path
+    run-short = omega (arith, trail-going (u .lent) (g .held .trail) .short, g .size)
+
+    -- it is finished: the answer, the buffer once it is cleared past the path, and the states
+    pub run-done : {path′ : List ℕ} → not (w .finished) ≡ false → path′ ≡ take (w .length) path ++ replicate (length path - w .length) 0
+        → (Walked (w .step) (w .length) ≡ runAnswer s h facts verdicts states₀ f)
+        × ((path′ ≡ runPath s h facts verdicts states₀ f b) × (states ≡ runStates s h facts verdicts states₀ f))
+    unfolding runAnswer runPath runStates laid
+    run-done y c =
+        let t = running states path w in
+        let e : t ≡ ran s h facts verdicts states₀ f = sym (run-stops s h facts verdicts t (stepsOf s h f - w .length) (not-false (w .finished) y)) ∙ g .rest in
+        let l : laid (take (w .length) path) b ≡ take (w .length) path ++ replicate (length path - w .length) 0 = rw (length-take-le (w .length) path run-short, g .size) in (
+          ap (λ (x : Running). Walked (x .walker .step) (x .walker .length)) e,
+          (c ∙ sym l ∙ ap (λ (x : Running). laid (x .path) b) e, ap (λ (x : Running). x .states) e),
+        )
+
+    module _ (y : not (w .finished) ≡ true) where
+      on : w .finished ≡ false
+      on = not-true (w .finished) y
+
+      pub run-step : Steppable s h facts verdicts (w .step)
+      run-step = held-step u (g .held) on
+
+      pub run-room : w .length < length path
+      run-room = omega (arith, going-room (trail-going (u .lent) (g .held .trail)) on, g .size)
+
+      pub run-route : (r : ℕ) → r ≡ routeTaken s h facts verdicts states (w .step) → r < h .routes
+      run-route r k = rw k (omega (arith, route-of run-step run-valid .high, routes-end run-step))
+
+      -- where the loop stands after the step
+      next : stepped s h facts verdicts (running states path w)
+          ≡ running (statesThen s h facts verdicts states (w .step)) (set path (w .length) (routeTaken s h facts verdicts states (w .step))) (taken s h w (routeTaken s h facts verdicts states (w .step)))
+      unfolding stepped taken
+      next = rw (add-one, take-suc-set path (w .length) (routeTaken s h facts verdicts states (w .step)) run-room)
+
+      after : Ongoing s h facts verdicts states₀ f b (statesThen s h facts verdicts states (w .step)) (set path (w .length) (routeTaken s h facts verdicts states (w .step)))
+          (taken s h w (routeTaken s h facts verdicts states (w .step)))
+      unfolding taken
+      after =
+          let t = running states path w in
+          let n = stepsOf s h f - (w .length + 1) in
+          let z : suc n ≡ stepsOf s h f - w .length = omega (arith, held-room u (g .held) on) in
+          record {
+            size = length-set path (w .length) (routeTaken s h facts verdicts states (w .step)) ∙ g .size;
+            held = subst (Held s h f) next (held-stepped u (g .held) on);
+            rest =
+                ap (runOn s h facts verdicts n) (sym next)
+                ∙ sym (run-steps s h facts verdicts t n on)
+                ∙ ap (λ (m : ℕ). runOn s h facts verdicts m t) z
+                ∙ g .rest;
+          }
+
+      module _ {r : ℕ} {states′ : List ℤ} {w′ : Walker}
+          (k : r ≡ routeTaken s h facts verdicts states (w .step)) (m : states′ ≡ statesThen s h facts verdicts states (w .step)) (q : w′ ≡ taken s h w r) where
+        pub run-more : Ongoing s h facts verdicts states₀ (flowOf s h (w₀ .step)) b states′ (set path (w .length) r) w′
+        run-more = rw (its-flow, q, k, m) after
+
+        pub run-less : length b - w′ .length < length b - w .length
+        unfolding taken
+        run-less = rw q (omega (arith, run-room, g .size))

@@ -1,0 +1,104 @@
+-- A run takes the routes of one of the flow's paths and answers that path; its answer fits, and its states are among their entities' states.
+-- Assumes nothing.
+use mathlib.Core.Path.{_≡_, refl, ap}
+use mathlib.Core.Bool.{Bool, true, false}
+use mathlib.Core.List.{List}
+use mathlib.Core.Logic.{⊎-elim}
+use Prim.Native.Nat.{ℕ, zero, suc, _+_, _≤_, _<_}
+use lib.IntN.{ℤ}
+use lib.ListN.{length, replicate, length-replicate}
+use native.Mathlib.Omega.{arith}
+use Rattle.tables.proofs.Bools.{bool-cases}
+use Rattle.answer.specs.Answers.{SmallWalk}
+use Rattle.layout.specs.declared.Header.{Header}
+use Rattle.operation.specs.States.{StatesIn}
+use Rattle.listing.specs.Paths.{stepsOf}
+use Rattle.listing.specs.Walkers.{taken}
+use Rattle.listing.specs.Calls.{Lent}
+use Rattle.listing.proofs.AllPaths.{path-small}
+use Rattle.listing.proofs.Buffers.{length-laid}
+use Rattle.listing.proofs.Walks.{going-room, going-step}
+use Rattle.listing.proofs.Trails.{Trail, begun as set-out, went, trail-going, trail-is-path, trail-listed, trail-short, trail-arrives}
+use Rattle.run.specs.Runs.{routeTaken, Running, begun, stepped, runOn, ran, runAnswer, runPath, runStates, Steppable, Runnable, Taken}
+use Rattle.run.proofs.StepLaws.{route-of, states-then-in}
+
+-- ---- a run by its steps
+
+module _ (s : List ℤ) (h : Header) (facts verdicts : List ℤ) (t : Running) where
+  pub run-stops : (n : ℕ) → t .walker .finished ≡ true → runOn s h facts verdicts n t ≡ t
+  unfolding runOn
+  run-stops zero e = refl
+  run-stops (suc n) e = ap (λ (x : Bool). elim x [ true ↦ t | false ↦ runOn s h facts verdicts n (stepped s h facts verdicts t) ]) e
+
+  pub run-steps : (n : ℕ) → t .walker .finished ≡ false → runOn s h facts verdicts (suc n) t ≡ runOn s h facts verdicts n (stepped s h facts verdicts t)
+  unfolding runOn
+  run-steps n e = ap (λ (x : Bool). elim x [ true ↦ t | false ↦ runOn s h facts verdicts n (stepped s h facts verdicts t) ]) e
+
+-- ---- what holds all along
+
+-- the routes taken lead from the flow's first step to where the run stands, and the states are among their entities' states
+pub record Held (s : List ℤ) (h : Header) (f : ℕ) (t : Running) : Type 0 where
+  pub trail : Trail s h f (t .path) (t .walker)
+  pub valid : StatesIn s h (t .states)
+
+module _ {s : List ℤ} {h : Header} {facts verdicts states : List ℤ} {f : ℕ} {b : List ℕ} (u : Runnable s h facts verdicts states f b) where
+  pub held-begun : Held s h f (begun s h f states)
+  unfolding begun
+  held-begun = record { trail = set-out; valid = u .valid }
+
+  -- a buffer exactly as long as the flow has steps would do
+  exact : Lent s h f (replicate (stepsOf s h f) 0)
+  exact = record { sheet = u .lent .sheet; flow = u .lent .flow; room = omega (arith, length-replicate {A = ℕ} (stepsOf s h f) 0) }
+
+  module _ {t : Running} (k : Held s h f t) (e : t .walker .finished ≡ false) where
+    -- so there is a step left
+    pub held-room : t .walker .length < stepsOf s h f
+    held-room = omega (arith, going-room (trail-going exact (k .trail)) e, length-replicate {A = ℕ} (stepsOf s h f) 0)
+
+    pub held-step : Steppable s h facts verdicts (t .walker .step)
+    held-step = record { accepted = u .lent .sheet; known = u .known; judged = u .judged; exists = going-step (trail-going (u .lent) (k .trail)) e }
+
+    pub held-stepped : Held s h f (stepped s h facts verdicts t)
+    unfolding stepped
+    held-stepped =
+        record {
+          trail = went (k .trail) e (routeTaken s h facts verdicts (t .states) (t .walker .step)) (route-of held-step (k .valid));
+          valid = states-then-in held-step (k .valid);
+        }
+
+  -- a run that has steps enough is finished
+  ends : (n : ℕ) (t : Running) → Held s h f t → stepsOf s h f ≤ n + t .walker .length
+      → Held s h f (runOn s h facts verdicts n t) × (runOn s h facts verdicts n t .walker .finished ≡ true)
+  unfolding runOn stepped taken
+  ends zero t k l = ⊎-elim (λ e. (k, e)) (λ e. absurd (omega (arith, held-room k e))) (bool-cases (t .walker .finished))
+  ends (suc n) t k l =
+      ⊎-elim (λ e. rw (run-stops s h facts verdicts t (suc n) e) (k, e))
+      (λ e. rw (run-steps s h facts verdicts t n e) (ends n (stepped s h facts verdicts t) (held-stepped k e) (omega arith))) (bool-cases (t .walker .finished))
+
+  done : Held s h f (ran s h facts verdicts states f) × (ran s h facts verdicts states f .walker .finished ≡ true)
+  unfolding ran
+  done = ends (stepsOf s h f) (begun s h f states) held-begun (omega arith)
+
+  -- any run takes the routes of one of the listed paths and answers that path
+  pub run-listed : Taken s h f (ran s h facts verdicts states f) (runAnswer s h facts verdicts states f)
+  unfolding runAnswer
+  run-listed =
+      let t = done .0 .trail in
+      let e = done .1 in
+      record { finished = e; listed = trail-listed (u .lent) t e; answers = trail-arrives t e; within = trail-short (u .lent) t e }
+
+  -- its answer fits a signed word
+  pub run-small : SmallWalk (runAnswer s h facts verdicts states f)
+  run-small =
+      let z = path-small s h (u .lent .sheet) f (u .lent .flow) (ran s h facts verdicts states f .path) (trail-is-path (u .lent) (done .0 .trail) (done .1)) in
+      rw (run-listed .answers) (omega arith, omega arith)
+
+  -- the states afterwards are among their entities' states
+  pub run-states-in : StatesIn s h (runStates s h facts verdicts states f)
+  unfolding runStates
+  run-states-in = done .0 .valid
+
+  -- the buffer keeps its length
+  pub run-path-long : length (runPath s h facts verdicts states f b) ≡ length b
+  unfolding runPath
+  run-path-long = length-laid (ran s h facts verdicts states f .path) b (omega (arith, run-listed .within, u .lent .room))

@@ -1,0 +1,180 @@
+-- One step of a run: its route is one of the step's, and the states afterwards are among their entities' states again.
+-- Assumes nothing.
+use mathlib.Core.Path.{_≡_, refl, sym, _∙_}
+use mathlib.Core.Bool.{Bool, true, false}
+use mathlib.Core.List.{List}
+use mathlib.Core.Logic.{⊎-elim}
+use Prim.Native.Nat.{ℕ, _+_, _-_, _≤_, _<_}
+use lib.IntN.{ℤ}
+use native.Mathlib.Omega.{arith}
+use borrow.Author.Tests.{eq-eqb, ne-eqb, eqb-true}
+use Rattle.tables.proofs.Bools.{bool-cases, true-false}
+use Rattle.answer.specs.declared.Refusal.{Refusal}
+use Rattle.answer.specs.declared.Count.{Count}
+use Rattle.answer.specs.declared.Count.the-variants.{Is, Refused}
+use Rattle.layout.specs.declared.Header.{Header}
+use Rattle.layout.specs.Tables.{operation, step}
+use Rattle.records.proofs.FlowLaws.{StepKind, performs as is-operation, branches as is-branch, step-is}
+use Rattle.records.proofs.OperationLaws.{operation-ok}
+use Rattle.predicate.specs.Values.{truth, Evaluable}
+use Rattle.operation.specs.States.{StatesIn}
+use Rattle.attempt.specs.Attempts.{Attemptable, attempted, attemptedStates}
+use Rattle.attempt.proofs.AttemptLaws.{refused-states, outcome-below, attempted-in}
+use Rattle.listing.specs.Paths.{firstRouteOf, routesOf, RouteOf}
+use Rattle.listing.proofs.Ways.{step-ends}
+use Rattle.run.specs.Runs.{performs, operationAt, personaAt, nodeAt, answerRoute, branchRoute, routeTaken, statesThen, Steppable}
+
+-- ---- by the step's kind
+
+module _ (s : List ℤ) (h : Header) (facts verdicts states : List ℤ) (i : ℕ) where
+  pub operation-route : performs s h i ≡ true → routeTaken s h facts verdicts states i ≡ answerRoute s h i (attempted s h facts verdicts states (personaAt s h i) (operationAt s h i))
+  unfolding routeTaken
+  operation-route e = rw (e, routeTaken)
+
+  pub operation-states : performs s h i ≡ true → statesThen s h facts verdicts states i ≡ attemptedStates s h facts verdicts states (personaAt s h i) (operationAt s h i)
+  unfolding statesThen
+  operation-states e = rw (e, statesThen)
+
+  pub branch-takes : performs s h i ≡ false → routeTaken s h facts verdicts states i ≡ branchRoute s h i (truth s h facts verdicts (nodeAt s h i))
+  unfolding routeTaken
+  branch-takes e = rw (e, routeTaken)
+
+  pub branch-states : performs s h i ≡ false → statesThen s h facts verdicts states i ≡ states
+  unfolding statesThen
+  branch-states e = rw (e, statesThen)
+
+  -- a step that is refused changes nothing, and takes the last of its routes
+  pub refused-step : (r : Refusal) → performs s h i ≡ true → attempted s h facts verdicts states (personaAt s h i) (operationAt s h i) ≡ Refused r
+      → (statesThen s h facts verdicts states i ≡ states) × (routeTaken s h facts verdicts states i ≡ firstRouteOf s h i + routesOf s h i - 1)
+  unfolding answerRoute
+  refused-step r e q =
+      (operation-states e ∙ refused-states s h facts verdicts states (personaAt s h i) (operationAt s h i) r q, operation-route e ∙ rw q)
+
+-- ---- on an accepted sheet
+
+module _ {s : List ℤ} {h : Header} {facts verdicts : List ℤ} {i : ℕ} (w : Steppable s h facts verdicts i) where
+  kind : StepKind s h (step s h i)
+  kind = step-is s h (w .accepted) i (w .exists)
+
+  -- a branch's node can be worked out
+  pub evaluable : performs s h i ≡ false → (n : ℕ) → n ≡ nodeAt s h i → Evaluable s h facts verdicts n
+  evaluable e n q = record { accepted = w .accepted; known = w .known; judged = w .judged; exists = rw q (go kind) }
+    where
+      go : StepKind s h (step s h i) → nodeAt s h i < h .nodes
+      go (is-operation z o p c) = absurd (true-false (eq-eqb (step s h i .w0) 0 z) e)
+      go (is-branch z o t c) = o
+
+  pub branch-two : performs s h i ≡ false → routesOf s h i ≡ 2
+  unfolding routesOf
+  branch-two e = go kind
+    where
+      go : StepKind s h (step s h i) → step s h i .w4 ≡ 2
+      go (is-operation z o p c) = absurd (true-false (eq-eqb (step s h i .w0) 0 z) e)
+      go (is-branch z o t c) = c
+
+  -- the routes lie in the table
+  pub routes-end : firstRouteOf s h i + routesOf s h i ≤ h .routes
+  routes-end = step-ends s h (w .accepted) i (w .exists)
+
+  pub branch-of : performs s h i ≡ false → (b : Bool) → RouteOf s h i (branchRoute s h i b)
+  unfolding branchRoute
+  branch-of e true = record { low = omega arith; high = omega (arith, branch-two e) }
+  branch-of e false = record { low = omega arith; high = omega (arith, branch-two e) }
+
+  -- an operation step has a route for each outcome, and one more
+  pub operation-routes : performs s h i ≡ true → routesOf s h i ≡ operation s h (operationAt s h i) .w4 + 1
+  unfolding routesOf
+  operation-routes e = go kind
+    where
+      go : StepKind s h (step s h i) → step s h i .w4 ≡ operation s h (operationAt s h i) .w4 + 1
+      go (is-operation z o p c) = c
+      go (is-branch z o t c) = let k = eqb-true (step s h i .w0) 0 e in absurd (omega arith)
+
+  module _ {states : List ℤ} (v : StatesIn s h states) where
+    -- an operation step's operation can be attempted
+    pub attemptable : performs s h i ≡ true → Attemptable s h facts verdicts states (personaAt s h i) (operationAt s h i)
+    attemptable e = go kind
+      where
+        go : StepKind s h (step s h i) → Attemptable s h facts verdicts states (personaAt s h i) (operationAt s h i)
+        go (is-operation z o p c) =
+            record { ready = record { accepted = w .accepted; lent = v; exists = o }; known = w .known; judged = w .judged; persona = p }
+        go (is-branch z o t c) = let k = eqb-true (step s h i .w0) 0 e in absurd (omega arith)
+
+    pub answer-of : performs s h i ≡ true → (r : Count) → attempted s h facts verdicts states (personaAt s h i) (operationAt s h i) ≡ r → RouteOf s h i (answerRoute s h i r)
+    unfolding answerRoute
+    answer-of e (Is j) q = record { low = omega arith; high = omega (arith, operation-routes e, outcome-below (attemptable e) j q) }
+    answer-of e (Refused r) q = let k = operation-routes e in record { low = omega arith; high = omega arith }
+
+    -- the route taken is one of the step's
+    pub route-of : RouteOf s h i (routeTaken s h facts verdicts states i)
+    route-of =
+        ⊎-elim (λ e. rw (operation-route s h facts verdicts states i e) (answer-of e (attempted s h facts verdicts states (personaAt s h i) (operationAt s h i)) refl))
+        (λ e. rw (branch-takes s h facts verdicts states i e) (branch-of e (truth s h facts verdicts (nodeAt s h i)))) (bool-cases (performs s h i))
+
+    -- the states afterwards are among their entities' states
+    pub states-then-in : StatesIn s h (statesThen s h facts verdicts states i)
+    states-then-in =
+        ⊎-elim (λ e. rw (operation-states s h facts verdicts states i e) (attempted-in (attemptable e)))
+        (λ e. rw (branch-states s h facts verdicts states i e) v) (bool-cases (performs s h i))
+
+-- ---- what the code finds
+
+module _ (s : List ℤ) (h : Header) (facts verdicts states : List ℤ) (i : ℕ) where
+  -- an operation step
+  pub took-operation : (r : ℕ) (end : List ℤ) → performs s h i ≡ true → r ≡ answerRoute s h i (attempted s h facts verdicts states (personaAt s h i) (operationAt s h i))
+      → end ≡ attemptedStates s h facts verdicts states (personaAt s h i) (operationAt s h i)
+      → (r ≡ routeTaken s h facts verdicts states i) × (end ≡ statesThen s h facts verdicts states i)
+  took-operation r end e p q = (p ∙ sym (operation-route s h facts verdicts states i e), q ∙ sym (operation-states s h facts verdicts states i e))
+
+  -- a branch
+  pub took-branch : (r : ℕ) → performs s h i ≡ false → r ≡ branchRoute s h i (truth s h facts verdicts (nodeAt s h i))
+      → (r ≡ routeTaken s h facts verdicts states i) × (states ≡ statesThen s h facts verdicts states i)
+  took-branch r e p = (p ∙ sym (branch-takes s h facts verdicts states i e), sym (branch-states s h facts verdicts states i e))
+
+-- a branch: b is whether its node n is true
+module _ {s : List ℤ} {h : Header} {facts verdicts : List ℤ} {i first n : ℕ} {b : Bool} (w : Steppable s h facts verdicts i) (q : first ≡ firstRouteOf s h i)
+    (is-node : n ≡ nodeAt s h i) (is-truth : b ≡ truth s h facts verdicts n) where
+  pub on-true : b ≡ true → first ≡ branchRoute s h i (truth s h facts verdicts (nodeAt s h i))
+  unfolding branchRoute
+  on-true e = rw (q, rw is-node at (sym is-truth ∙ e))
+
+  pub on-false : b ≡ false → first + 1 ≡ branchRoute s h i (truth s h facts verdicts (nodeAt s h i))
+  unfolding branchRoute
+  on-false e = rw (q, rw is-node at (sym is-truth ∙ e))
+
+-- an operation step: x is what the attempt of operation o by persona p comes to, and end the states that it leaves
+module _ {s : List ℤ} {h : Header} {facts verdicts states : List ℤ} {i first p o : ℕ} (w : Steppable s h facts verdicts i) (v : StatesIn s h states)
+    (e : performs s h i ≡ true) (q : first ≡ firstRouteOf s h i) (of-step : o ≡ operationAt s h i) (by-persona : p ≡ personaAt s h i) where
+  pub asked : Attemptable s h facts verdicts states p o
+  asked = rw (of-step, by-persona) (attemptable w v e)
+
+  module _ {x : Count} (is-answer : x ≡ attempted s h facts verdicts states p o) where
+    answered : attempted s h facts verdicts states (personaAt s h i) (operationAt s h i) ≡ x
+    answered = rw (of-step, by-persona) at (sym is-answer)
+
+    pub outcome-fits : (j : ℕ) → x ≡ Is j → first + j < h .routes
+    unfolding answerRoute
+    outcome-fits j z = rw q (omega (arith, answer-of w v e (Is j) (answered ∙ z) .high, routes-end w))
+
+    module _ {end : List ℤ} (is-end : end ≡ attemptedStates s h facts verdicts states p o) where
+      pub by-outcome : (j : ℕ) → x ≡ Is j
+          → (first + j ≡ answerRoute s h i (attempted s h facts verdicts states (personaAt s h i) (operationAt s h i)))
+          × (end ≡ attemptedStates s h facts verdicts states (personaAt s h i) (operationAt s h i))
+      unfolding answerRoute
+      by-outcome j z = (rw (answered ∙ z, q), rw (of-step, by-persona) at is-end)
+
+      pub by-failure : (r : Refusal) (count : ℕ) → x ≡ Refused r → count ≡ routesOf s h i
+          → (first + count - 1 ≡ answerRoute s h i (attempted s h facts verdicts states (personaAt s h i) (operationAt s h i)))
+          × (end ≡ attemptedStates s h facts verdicts states (personaAt s h i) (operationAt s h i))
+      unfolding answerRoute
+      by-failure r count z k = (rw (answered ∙ z, q, k), rw (of-step, by-persona) at is-end)
+
+-- the routes of an operation step are few, and there are two at least
+pub routes-few : {s : List ℤ} {h : Header} {facts verdicts : List ℤ} {i first count : ℕ} → Steppable s h facts verdicts i → performs s h i ≡ true → first ≡ firstRouteOf s h i
+    → count ≡ routesOf s h i → (first + count ≤ 1024) × (2 ≤ count)
+routes-few {s} {h} {facts} {verdicts} {i} {first} {count} w e q k =
+    (omega (arith, q, k, routes-end w, w .accepted .sized .limits .routes), go (step-is s h (w .accepted) i (w .exists)))
+  where
+    go : StepKind s h (step s h i) → 2 ≤ count
+    go (is-operation z o p c) = omega (arith, k, operation-routes w e, operation-ok (w .accepted) (operationAt s h i) o .outcomes)
+    go (is-branch z o t c) = omega (arith, k, branch-two w (ne-eqb (step s h i .w0) 0 (λ x. omega arith)))
