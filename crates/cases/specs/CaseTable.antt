@@ -1,0 +1,85 @@
+-- 01's proved cases as one table: each row is what a public call's contract says of it, beside what 01 says.
+-- Assumes nothing.
+use mathlib.Core.Bool.{Bool, true, false, _&&_}
+use mathlib.Core.List.{List, [], _∷_, _++_, map}
+use Prim.Native.Nat.{ℕ}
+use lib.IntN.{ℤ, pos}
+use lib.ListN.{replicate}
+use Rattle.signed.specs.Words.{eqZ}
+use Rattle.answer.specs.declared.Answer.{Answer}
+use Rattle.answer.specs.Answers.{statusAnswer, countAnswer, walkAnswer}
+use Rattle.records.specs.Accept.{checked}
+use Rattle.listing.specs.Lists.{Next, First, State}
+use Rattle.evaluate.specs.Calls.{assembleAnswer, assembleValues}
+use Rattle.flows.specs.Calls.{runCall, runPathLeft, runStatesLeft}
+use Rattle.flows.specs.PublicLists.{publicCall, publicCalls}
+use Rattle.cases.specs.Sheets.{whole, sixRoutes, thirdOutcome, sumWith}
+
+-- a case by its number in 01: the row that the definitions give, and the row that 01 gives
+pub record Case : Type 0 where
+  pub number : ℕ
+  pub got : List ℤ
+  pub want : List ℕ
+
+-- a row: refusal, place, value and length, then the lent words and the lent path as the call left them
+unfoldable pub row : Answer → List ℤ → List ℕ → List ℤ
+row a lent path = a .refusal ∷ a .place ∷ a .value ∷ a .length ∷ lent ++ map pos path
+
+unfoldable pub same : List ℤ → List ℕ → Bool
+same [] [] = true
+same [] (n ∷ ns) = false
+same (x ∷ xs) [] = false
+same (x ∷ xs) (n ∷ ns) = eqZ x (pos n) && same xs ns
+
+-- the numbers of the cases whose rows differ
+unfoldable pub wrong : List Case → List ℕ
+wrong [] = []
+wrong (c ∷ cs) = elim (same (c .got) (c .want)) [ true ↦ wrong cs | false ↦ c .number ∷ wrong cs ]
+
+-- ---- the calls
+
+-- a path buffer that holds rubbish
+abbrev pub rubbish : List ℕ
+rubbish = 9 ∷ 9 ∷ []
+
+-- a first and then n nexts
+unfoldable pub listed : ℕ → List ℤ
+listed n =
+    let t = publicCalls whole (pos 0) (publicCall whole (pos 0) rubbish First) (replicate n Next) in
+    row (walkAnswer (t .answer)) [] (t .buffer)
+
+-- a run with the fact lent as x and flagged g, from state q
+unfoldable pub ranFrom : ℕ → ℕ → ℕ → List ℤ
+ranFrom x g q =
+    let values = pos x ∷ [] in
+    let given = pos g ∷ [] in
+    let states = pos q ∷ [] in
+    row (walkAnswer (runCall whole values given states (pos 0) rubbish)) (runStatesLeft whole values given states (pos 0) rubbish)
+    (runPathLeft whole values given states (pos 0) rubbish)
+
+unfoldable pub judged : List ℤ → List ℤ
+judged s = row (statusAnswer (checked s)) [] []
+
+unfoldable pub assembledWith : ℕ → ℕ → List ℤ
+assembledWith x g =
+    row (statusAnswer (assembleAnswer whole (pos x ∷ []) (pos g ∷ []))) (assembleValues whole (pos x ∷ []) (pos g ∷ [])) []
+
+-- ---- the table
+
+unfoldable pub cases : List Case
+cases =
+    record { number = 1; got = listed 0; want = 0 ∷ 0 ∷ 0 ∷ 2 ∷ 0 ∷ 2 ∷ [] }
+    ∷ record { number = 1; got = listed 1; want = 0 ∷ 0 ∷ 0 ∷ 2 ∷ 0 ∷ 3 ∷ [] }
+    ∷ record { number = 1; got = listed 2; want = 0 ∷ 0 ∷ 2 ∷ 2 ∷ 0 ∷ 4 ∷ [] }
+    ∷ record { number = 1; got = listed 3; want = 0 ∷ 0 ∷ 1 ∷ 1 ∷ 1 ∷ 0 ∷ [] }
+    ∷ record { number = 1; got = listed 4; want = 13 ∷ 0 ∷ 0 ∷ 0 ∷ 1 ∷ 0 ∷ [] }
+    ∷ record { number = 2; got = ranFrom 1 1 0; want = 0 ∷ 0 ∷ 0 ∷ 2 ∷ 1 ∷ 0 ∷ 2 ∷ [] }
+    ∷ record { number = 3; got = ranFrom 1 0 0; want = 0 ∷ 0 ∷ 1 ∷ 1 ∷ 0 ∷ 1 ∷ 0 ∷ [] }
+    ∷ record { number = 4; got = ranFrom 1 1 1; want = 0 ∷ 0 ∷ 2 ∷ 2 ∷ 1 ∷ 0 ∷ 4 ∷ [] }
+    ∷ record { number = 7; got = judged sixRoutes; want = 1 ∷ 0 ∷ 0 ∷ 0 ∷ [] }
+    ∷ record { number = 8; got = judged thirdOutcome; want = 3 ∷ 8 ∷ 0 ∷ 0 ∷ [] }
+    ∷ record { number = 9; got = judged (sumWith 0); want = 0 ∷ 0 ∷ 0 ∷ 0 ∷ [] }
+    ∷ record { number = 9; got = judged (sumWith 1); want = 3 ∷ 3 ∷ 0 ∷ 0 ∷ [] }
+    ∷ record { number = 10; got = assembledWith 2 1; want = 6 ∷ 0 ∷ 0 ∷ 0 ∷ 2 ∷ [] }
+    ∷ record { number = 10; got = ranFrom 2 1 0; want = 6 ∷ 0 ∷ 0 ∷ 0 ∷ 0 ∷ 9 ∷ 9 ∷ [] }
+    ∷ []
