@@ -2,7 +2,7 @@
 -- Assumes nothing.
 use mathlib.Core.Path.{_≡_, refl}
 use mathlib.Core.List.{[]}
-use Rattle.signed.specs.Compare.{holds, somePair, canHold, canFail}
+use Rattle.signed.specs.Compare.{holds, canHold, canFail}
 use Rattle.signed.specs.Words.{eqZ, within, bounded, num, minZ, maxZ}
 use Rattle.words.specs.Record.{recordAt, unused}
 use Rattle.tables.specs.Scan.{allBelow, anyBelow, sumBelow, firstFail}
@@ -22,29 +22,30 @@ use Rattle.records.specs.Rules.{isVerdict, citesStep, goodRule}
 use Rattle.facts.specs.Assembled.{taken as taken-facts, assembled}
 use Rattle.facts.specs.Faults.{factFault, firstRefused, factsFault}
 use Rattle.predicate.specs.Exprs.{exprFrom, exprOf}
-use Rattle.predicate.specs.Sizes.{sizeFrom, treeSize}
 use Rattle.predicate.specs.Values.{one, two, decides, valueFrom, valueOf}
 use Rattle.predicate.specs.Verdicts.{verdictsTo, verdictsOf}
-use Rattle.operation.specs.Changes.{mover, newState, applied, after, performed}
-use Rattle.operation.specs.Inner.{effectsOf, taken as taken-operation}
+use Rattle.operation.specs.Changes.{mover, newState, applied}
 use Rattle.operation.specs.Mask.{allowed}
 use Rattle.operation.specs.Outcomes.{ofOutcome, starts, moves, matched, unblocked, applicable, firstApplicable, chosen}
 use Rattle.operation.specs.States.{stateIn, firstStray, statesFault}
 use Rattle.attempt.specs.Attempts.{attempted, statesAfter, attemptedStates}
 use Rattle.listing.specs.Calls.{begins, headOf, following, laid, firstAnswer, firstBuffer, answerOf, bufferOf, nextAnswer, nextBuffer}
-use Rattle.listing.specs.Depth.{greatest, depth, maxFrom, routeDepth, stepDepth}
-use Rattle.listing.specs.Lists.{called, calledOn, nexts, count, readOff}
+use Rattle.listing.specs.Depth.{greatest, depth}
 use Rattle.listing.specs.Paths.{firstRouteOf, routesOf, ends, target, lastOf, terminal, onward, inTurn, pathsFrom, paths, path}
-use Rattle.listing.specs.Seeks.{turned, turning}
-use Rattle.listing.specs.Walkers.{started, taken as taken-listing, walked, pathsOn, remaining}
+use Rattle.listing.specs.Walkers.{started, taken as taken-listing}
 use Rattle.run.specs.Runs.{answerRoute, branchRoute, routeTaken, statesThen, begun, stepped, runOn, ran, runAnswer, runPath, runStates}
-use Rattle.ladder.specs.Ladder.{firstOf, unless, ladder, opened}
-use Rattle.evaluate.specs.Calls.{assembleAnswer, assembleValues, verdictsAnswer, verdictsBuffer, operateLadder, operateAnswer, operateStates}
-use Rattle.flows.specs.Calls.{pathLent, flowLadder, entered, firstCall, firstLeft, nextCall, nextLeft, runLadder, runCall, runPathLeft, runStatesLeft}
+use Rattle.ladder.specs.Ladder.{firstOf, unless, ladder}
+use Rattle.evaluate.specs.Calls.{assembleAnswer, assembleValues}
+use Rattle.flows.specs.Calls.{pathLent, flowLadder, firstCall, firstLeft, nextCall, nextLeft, runLadder, runCall, runPathLeft, runStatesLeft}
 use Rattle.flows.specs.PublicLists.{publicCall, publicCalls}
+use Rattle.reach.specs.Inner.{settled, nextOpen}
+use Rattle.reach.specs.Moves.{leaves}
+use Rattle.reach.specs.Reached.{enters, round, flagged, maskOf, reachable}
+use Rattle.causes.specs.Causes.{effectPasses}
+use Rattle.reports.specs.Reports.{climb, reportOn}
 use Rattle.cases.specs.Sheets.{whole, sixRoutes, thirdOutcome, sumWith}
 use Rattle.cases.specs.CaseTable.{row, same, wrong, listed, ranFrom, judged, assembledWith, cases}
 
 pub none-wrong : wrong cases ≡ []
-unfolding holds somePair canHold canFail eqZ within bounded num minZ maxZ recordAt unused allBelow anyBelow sumBelow firstFail grown entry goodGroup goodGroups headerOf inLimits goodFrame goodHeader kindOf goodWords comparedSpan rangeFrom goodSpan tablesOf goodIn firstBad checked goodEntity goodChange goodTransition sameChange declared goodBounds goodSet goodDefault agree goodFact goodFlow goodOperationStep goodBranchStep goodStep flowOf stepOf goodRouteOf goodRoute namedByRules namedByOperations namedBySteps goodRoot typeOf rangeStep nodeNames namedByNodes goodChildren goodNode goodMask goodOperation operationOf goodOutcome sameSource goodEffectOf goodEffect isVerdict citesStep goodRule taken-facts assembled factFault firstRefused factsFault exprFrom exprOf sizeFrom treeSize one two decides valueFrom valueOf verdictsTo verdictsOf mover newState applied after performed effectsOf taken-operation allowed ofOutcome starts moves matched unblocked applicable firstApplicable chosen stateIn firstStray statesFault attempted statesAfter attemptedStates begins headOf following laid firstAnswer firstBuffer answerOf bufferOf nextAnswer nextBuffer greatest depth maxFrom routeDepth stepDepth called calledOn nexts count readOff firstRouteOf routesOf ends target lastOf terminal onward inTurn pathsFrom paths path turned turning started taken-listing walked pathsOn remaining answerRoute branchRoute routeTaken statesThen begun stepped runOn ran runAnswer runPath runStates firstOf unless ladder opened assembleAnswer assembleValues verdictsAnswer verdictsBuffer operateLadder operateAnswer operateStates pathLent flowLadder entered firstCall firstLeft nextCall nextLeft runLadder runCall runPathLeft runStatesLeft publicCall publicCalls whole sixRoutes thirdOutcome sumWith row same wrong listed ranFrom judged assembledWith cases
+unfolding holds canHold canFail eqZ within bounded num minZ maxZ recordAt unused allBelow anyBelow sumBelow firstFail grown entry goodGroup goodGroups headerOf inLimits goodFrame goodHeader kindOf goodWords comparedSpan rangeFrom goodSpan tablesOf goodIn firstBad checked goodEntity goodChange goodTransition sameChange declared goodBounds goodSet goodDefault agree goodFact goodFlow goodOperationStep goodBranchStep goodStep flowOf stepOf goodRouteOf goodRoute namedByRules namedByOperations namedBySteps goodRoot typeOf rangeStep nodeNames namedByNodes goodChildren goodNode goodMask goodOperation operationOf goodOutcome sameSource goodEffectOf goodEffect isVerdict citesStep goodRule taken-facts assembled factFault firstRefused factsFault exprFrom exprOf one two decides valueFrom valueOf verdictsTo verdictsOf mover newState applied allowed ofOutcome starts moves matched unblocked applicable firstApplicable chosen stateIn firstStray statesFault attempted statesAfter attemptedStates begins headOf following laid firstAnswer firstBuffer answerOf bufferOf nextAnswer nextBuffer greatest depth firstRouteOf routesOf ends target lastOf terminal onward inTurn pathsFrom paths path started taken-listing answerRoute branchRoute routeTaken statesThen begun stepped runOn ran runAnswer runPath runStates firstOf unless ladder assembleAnswer assembleValues pathLent flowLadder firstCall firstLeft nextCall nextLeft runLadder runCall runPathLeft runStatesLeft publicCall publicCalls settled nextOpen leaves enters round flagged maskOf reachable effectPasses climb reportOn whole sixRoutes thirdOutcome sumWith row same wrong listed ranFrom judged assembledWith cases
 none-wrong = refl

@@ -13,6 +13,7 @@ use Rattle.listing.specs.Lists.{Next, First, State}
 use Rattle.evaluate.specs.Calls.{assembleAnswer, assembleValues}
 use Rattle.flows.specs.Calls.{runCall, runPathLeft, runStatesLeft}
 use Rattle.flows.specs.PublicLists.{publicCall, publicCalls}
+use Rattle.reports.specs.Reports.{reachableReport, depthReport}
 use Rattle.cases.specs.Sheets.{whole, sixRoutes, thirdOutcome, sumWith}
 
 -- a case by its number in 01: the row that the definitions give, and the row that 01 gives
@@ -76,6 +77,8 @@ cases =
     ∷ record { number = 2; got = ranFrom 1 1 0; want = 0 ∷ 0 ∷ 0 ∷ 2 ∷ 1 ∷ 0 ∷ 2 ∷ [] }
     ∷ record { number = 3; got = ranFrom 1 0 0; want = 0 ∷ 0 ∷ 1 ∷ 1 ∷ 0 ∷ 1 ∷ 0 ∷ [] }
     ∷ record { number = 4; got = ranFrom 1 1 1; want = 0 ∷ 0 ∷ 2 ∷ 2 ∷ 1 ∷ 0 ∷ 4 ∷ [] }
+    ∷ record { number = 5; got = row (countAnswer (reachableReport whole (pos 0))) [] []; want = 0 ∷ 0 ∷ 7 ∷ 0 ∷ [] }
+    ∷ record { number = 6; got = row (countAnswer (depthReport whole (pos 0))) [] []; want = 0 ∷ 0 ∷ 2 ∷ 0 ∷ [] }
     ∷ record { number = 7; got = judged sixRoutes; want = 1 ∷ 0 ∷ 0 ∷ 0 ∷ [] }
     ∷ record { number = 8; got = judged thirdOutcome; want = 3 ∷ 8 ∷ 0 ∷ 0 ∷ [] }
     ∷ record { number = 9; got = judged (sumWith 0); want = 0 ∷ 0 ∷ 0 ∷ 0 ∷ [] }

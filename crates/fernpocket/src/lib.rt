@@ -5,6 +5,7 @@ ghost use Rattle.answer.specs.Answers.{statusAnswer, countAnswer, walkAnswer};
 ghost use Rattle.records.specs.Accept.{checked};
 ghost use Rattle.evaluate.specs.Calls.{assembleAnswer, assembleValues, verdictsAnswer, verdictsBuffer, operateAnswer, operateStates};
 ghost use Rattle.flows.specs.Calls.{firstCall, firstLeft, nextCall, nextLeft, runCall, runPathLeft, runStatesLeft};
+ghost use Rattle.reports.specs.Reports.{statesReport, reachableReport, admissibleReport, canCauseReport, rulesReport, stratumReport, outcomesReport, treeSizeReport, depthReport};
 ghost use Rattle.text.specs.Calls.{readAnswer, readBuffer, writeAnswer, writeBuffer};
 use answer::Answer;
 use answer::of_count;
@@ -109,4 +110,88 @@ pub extern "C" fn fernpocket_next(sheet: &[i64], flow: i64, path: &mut [u16]) ->
     ensures { λ _. ⌜ now (path .exit) ≡ nextLeft (now (sheet .entry)) flow (now (path .entry)) ⌝ }
 {
     of_walk(flows::next(sheet, flow, path))
+}
+
+// S1: the number of an entity's states.
+#[no_mangle]
+pub extern "C" fn fernpocket_states(sheet: &[i64], entity: i64) -> Answer
+    ensures { λ a. ⌜ a ≡ countAnswer (statesReport (now (sheet .entry)) entity) ⌝ }
+{
+    of_count(reports::states(sheet, entity))
+}
+
+// S2: the mask of the states reached from the initial one.
+#[no_mangle]
+pub extern "C" fn fernpocket_reachable(sheet: &[i64], entity: i64) -> Answer
+    ensures { λ a. ⌜ a ≡ countAnswer (reachableReport (now (sheet .entry)) entity) ⌝ }
+{
+    of_count(reports::reachable(sheet, entity))
+}
+
+// S3a: 1 for yes, 0 for no.
+#[no_mangle]
+pub extern "C" fn fernpocket_admissible(
+    sheet: &[i64],
+    entity: i64,
+    state: i64,
+    persona: i64,
+    operation: i64,
+) -> Answer
+    ensures { λ a. ⌜ a ≡ countAnswer (admissibleReport (now (sheet .entry)) entity state persona operation) ⌝ }
+{
+    of_count(reports::admissible(sheet, entity, state, persona, operation))
+}
+
+// S4: 1 for yes, 0 for no.
+#[no_mangle]
+pub extern "C" fn fernpocket_can_cause(
+    sheet: &[i64],
+    persona: i64,
+    entity: i64,
+    from: i64,
+    to: i64,
+) -> Answer
+    ensures { λ a. ⌜ a ≡ countAnswer (canCauseReport (now (sheet .entry)) persona entity from to) ⌝ }
+{
+    of_count(reports::can_cause(sheet, persona, entity, from, to))
+}
+
+// S5: the number of rules.
+#[no_mangle]
+pub extern "C" fn fernpocket_rules(sheet: &[i64]) -> Answer
+    ensures { λ a. ⌜ a ≡ countAnswer (rulesReport (now (sheet .entry))) ⌝ }
+{
+    of_count(reports::rules(sheet))
+}
+
+// S5: a rule's stratum.
+#[no_mangle]
+pub extern "C" fn fernpocket_stratum(sheet: &[i64], rule: i64) -> Answer
+    ensures { λ a. ⌜ a ≡ countAnswer (stratumReport (now (sheet .entry)) rule) ⌝ }
+{
+    of_count(reports::stratum(sheet, rule))
+}
+
+// S5: the number of an operation's outcomes.
+#[no_mangle]
+pub extern "C" fn fernpocket_outcomes(sheet: &[i64], operation: i64) -> Answer
+    ensures { λ a. ⌜ a ≡ countAnswer (outcomesReport (now (sheet .entry)) operation) ⌝ }
+{
+    of_count(reports::outcomes(sheet, operation))
+}
+
+// S7: the number of nodes in the tree under a node.
+#[no_mangle]
+pub extern "C" fn fernpocket_tree_size(sheet: &[i64], node: i64) -> Answer
+    ensures { λ a. ⌜ a ≡ countAnswer (treeSizeReport (now (sheet .entry)) node) ⌝ }
+{
+    of_count(reports::tree_size(sheet, node))
+}
+
+// S7: the number of steps on a flow's longest path.
+#[no_mangle]
+pub extern "C" fn fernpocket_depth(sheet: &[i64], flow: i64) -> Answer
+    ensures { λ a. ⌜ a ≡ countAnswer (depthReport (now (sheet .entry)) flow) ⌝ }
+{
+    of_count(reports::depth(sheet, flow))
 }

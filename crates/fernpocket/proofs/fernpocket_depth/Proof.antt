@@ -1,0 +1,20 @@
+-- `fernpocket::fernpocket_depth` meets its contract. Assumes nothing.
+use Rattle.reports.proofs.SmallReports.{depth-small}
+use Rattle.signed.proofs.Fit.{back}
+use Rattle.answer.specs.Answers.{countAnswer}
+use mathlib.Core.Path.{ap, _∙_}
+use borrow.Author.Needs.{needs}
+use Rattle.fernpocket.proofs.fernpocket_depth.Statement.{statement}
+use Rattle.fernpocket.proofs.fernpocket_depth.Tie as tie
+
+depth-requires : tie.Need-depth-requires
+depth-requires c κs = search needs
+
+of-count-requires : tie.Need-of-count-requires
+of-count-requires c κs = rw (c .depth .ensures) (depth-small _ _)
+
+returns : tie.Need-returns
+returns c = c .of-count .ensures ∙ ap countAnswer (rw (back (c .before .before .fits .flow)) at (c .before .depth .ensures))
+
+pub fernpocket-depth-spec : {M : Type 1} → statement M
+fernpocket-depth-spec = tie.close (tie.spec depth-requires of-count-requires returns)

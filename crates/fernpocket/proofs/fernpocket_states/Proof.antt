@@ -1,0 +1,20 @@
+-- `fernpocket::fernpocket_states` meets its contract. Assumes nothing.
+use Rattle.reports.proofs.SmallReports.{states-small}
+use Rattle.signed.proofs.Fit.{back}
+use Rattle.answer.specs.Answers.{countAnswer}
+use mathlib.Core.Path.{ap, _∙_}
+use borrow.Author.Needs.{needs}
+use Rattle.fernpocket.proofs.fernpocket_states.Statement.{statement}
+use Rattle.fernpocket.proofs.fernpocket_states.Tie as tie
+
+states-requires : tie.Need-states-requires
+states-requires c κs = search needs
+
+of-count-requires : tie.Need-of-count-requires
+of-count-requires c κs = rw (c .states .ensures) (states-small _ _)
+
+returns : tie.Need-returns
+returns c = c .of-count .ensures ∙ ap countAnswer (rw (back (c .before .before .fits .entity)) at (c .before .states .ensures))
+
+pub fernpocket-states-spec : {M : Type 1} → statement M
+fernpocket-states-spec = tie.close (tie.spec states-requires of-count-requires returns)

@@ -1,0 +1,20 @@
+-- `fernpocket::fernpocket_stratum` meets its contract. Assumes nothing.
+use Rattle.reports.proofs.SmallReports.{stratum-small}
+use Rattle.signed.proofs.Fit.{back}
+use Rattle.answer.specs.Answers.{countAnswer}
+use mathlib.Core.Path.{ap, _∙_}
+use borrow.Author.Needs.{needs}
+use Rattle.fernpocket.proofs.fernpocket_stratum.Statement.{statement}
+use Rattle.fernpocket.proofs.fernpocket_stratum.Tie as tie
+
+stratum-requires : tie.Need-stratum-requires
+stratum-requires c κs = search needs
+
+of-count-requires : tie.Need-of-count-requires
+of-count-requires c κs = rw (c .stratum .ensures) (stratum-small _ _)
+
+returns : tie.Need-returns
+returns c = c .of-count .ensures ∙ ap countAnswer (rw (back (c .before .before .fits .rule)) at (c .before .stratum .ensures))
+
+pub fernpocket-stratum-spec : {M : Type 1} → statement M
+fernpocket-stratum-spec = tie.close (tie.spec stratum-requires of-count-requires returns)

@@ -1,0 +1,29 @@
+-- `reports::depth` meets its contract: a report on one record. Assumes nothing.
+use Rattle.signed.proofs.Fit.{back}
+use Rattle.listing.specs.Depth.{depth}
+use Rattle.reports.proofs.ReportLaws.{found-at, report-not, report-is}
+use borrow.Author.Needs.{needs}
+use Rattle.reports.proofs.depth.Statement.{statement}
+use Rattle.reports.proofs.depth.Tie as tie
+
+find-requires : tie.Need-find-requires
+find-requires c κs = search needs
+
+enum-known-r : tie.Need-enum-known-r
+enum-known-r c = search needs
+
+enum-known-h : tie.Need-enum-known-h
+enum-known-h c = search needs
+
+longest-requires : tie.Need-longest-requires
+longest-requires c κs = let f = found-at _ _ _ (c .before .before .before .find .ensures) (c .before .h .given .1) in (f .sheet .sheet, f .below)
+
+returns : tie.Need-returns
+returns c = report-not _ _ _ (rw (back (c .before .before .before .before .fits .flow)) at (c .before .before .before .find .ensures)) depth (c .before .r .given .1)
+
+returns-2 : tie.Need-returns-2
+returns-2 c = report-is _ _ _ (rw (back (c .before .before .before .before .before .fits .flow)) at (c .before .before .before .before .find .ensures)) depth (c .before .before .h .given .1) (c .longest .ensures)
+
+pub depth-spec : {M : Type 1} → statement M
+depth-spec =
+    tie.close (tie.spec find-requires enum-known-r enum-known-h longest-requires returns returns-2)

@@ -1,0 +1,26 @@
+-- `reports::rules` meets its contract: the sheet is opened or refused. Assumes nothing.
+use Rattle.ladder.proofs.Climb.{sheet-open}
+use Rattle.reports.specs.Reports.{rulesReport}
+use Rattle.reports.proofs.ReportLaws.{climb-shut, rules-is}
+use borrow.Author.Needs.{needs}
+use Rattle.reports.proofs.rules.Statement.{statement}
+use Rattle.reports.proofs.rules.Tie as tie
+
+open-sheet-requires : tie.Need-open-sheet-requires
+open-sheet-requires c κs = search needs
+
+enum-known-r : tie.Need-enum-known-r
+enum-known-r c = search needs
+
+enum-known-h : tie.Need-enum-known-h
+enum-known-h c = search needs
+
+returns : tie.Need-returns
+unfolding rulesReport
+returns c = climb-shut _ _ _ _ (c .before .before .before .open-sheet .ensures) (c .before .r .given .1)
+
+returns-2 : tie.Need-returns-2
+returns-2 c = rules-is (sheet-open _ (c .before .before .before .open-sheet .ensures) (c .before .h .given .1))
+
+pub rules-spec : {M : Type 1} → statement M
+rules-spec = tie.close (tie.spec open-sheet-requires enum-known-r enum-known-h returns returns-2)
