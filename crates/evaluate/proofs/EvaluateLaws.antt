@@ -152,12 +152,12 @@ module _ (s values given states : List ℤ) (p o : ℤ) where
   operate-shut e q = operate-refused (sheet-shut s _ _ _ _ e q)
 
   -- what an operation asks, where nothing is refused
-  abbrev Rest : Header → Type 0
+  abbrev pub Rest : Header → Type 0
   Rest h =
       Passed (matches states (h .entities) && factsLent h values given) (exists p (h .personas) && exists o (h .operations)) (factsFault s h values given)
       (statesFault s h states)
 
-  all-asked : {h : Header} → Open s h → Rest h → Asked s h values given states (num p) (num o)
+  pub all-asked : {h : Header} → Open s h → Rest h → Asked s h values given states (num p) (num o)
   all-asked {h} x w =
       let z = simp tests at (w .lengths) in
       let y = simp tests at (w .numbers) in
