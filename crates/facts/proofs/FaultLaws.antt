@@ -9,6 +9,7 @@ use native.Mathlib.Omega.{arith}
 use lib.IntN.{ℤ, pos}
 use lib.ListN.{length, getD}
 use borrow.Author.Tests.{eqb-true}
+use Rattle.answer.proofs.Distinct.{refused-done}
 use Rattle.tables.specs.Table.{entry}
 use Rattle.tables.proofs.Bools.{bool-cases, and-right}
 use Rattle.tables.proofs.Grown.{length-grown, grown-at}
@@ -23,7 +24,7 @@ use Rattle.records.specs.Accepted.{Accepted}
 use Rattle.records.proofs.FactLaws.{fact-ok}
 use Rattle.facts.specs.Faults.{inFact, hasDefault, factFault, factsFault}
 use Rattle.facts.specs.Assembled.{taken, assembled, FactsIn}
-use Rattle.facts.proofs.Refused.{refused-done, none-refused, first-by}
+use Rattle.facts.proofs.Refused.{none-refused, first-by}
 
 module _ (s : List ℤ) (k : ℕ) (x g : ℤ) where
   pub defaulted : eqZ g (pos 0) ≡ true → hasDefault s k ≡ true → factFault s k x g ≡ Done

@@ -4,6 +4,7 @@ use mathlib.Core.Path.{_≡_, refl, sym, _∙_}
 use Prim.Native.Nat.{ℕ, zero, suc, _+_, _≤_, _<_}
 use native.Mathlib.Omega.{arith}
 use native.Mathlib.Decide.{decLt}
+use Rattle.answer.proofs.Distinct.{refused-done}
 use Rattle.tables.proofs.Scans.{extend-one}
 use Rattle.answer.specs.declared.Refusal.{Refusal}
 use Rattle.answer.specs.declared.Status.{Status}
@@ -14,9 +15,6 @@ use Rattle.facts.specs.Faults.{firstRefused}
 pub record Clear (f : ℕ → Status) (n k : ℕ) : Type 0 where
   pub here : k ≤ n
   pub clear : (j : ℕ) → j < k → f j ≡ Done
-
-pub refused-done : {r : Refusal} → Refused r ≡ Done → ⊥
-refused-done e = let z : _≡_ {A = ℕ} 0 1 = cc in omega arith
 
 module _ (f : ℕ → Status) where
   pub none : (n : ℕ) → Clear f n 0

@@ -7,6 +7,7 @@ use Prim.Native.Nat.{ℕ, _^_}
 use lib.IntN.{ℤ}
 use native.Mathlib.Omega.{arith}
 use lib.Dec.{lit<}
+use Rattle.answer.proofs.Distinct.{refused-done}
 use Rattle.answer.specs.declared.Refusal.{Refusal}
 use Rattle.answer.specs.declared.Refusal.the-variants.{Length, Missing}
 use Rattle.answer.specs.declared.Status.{Status}
@@ -21,12 +22,6 @@ use Rattle.ladder.specs.declared.Opened.{Opened}
 use Rattle.ladder.specs.declared.Opened.the-variants.{Sheet, Refused as Shut}
 use Rattle.ladder.specs.Ladder.{firstOf, unless, rungs, ladder, opened}
 use Rattle.ladder.proofs.Small.{checked-small}
-
-done-refused : {r : Refusal} → Done ≡ Refused r → ⊥
-done-refused e = let z : _≡_ {A = ℕ} 0 1 = cc in omega arith
-
-refused-done : {r : Refusal} → Refused r ≡ Done → ⊥
-refused-done e = done-refused (sym e)
 
 -- ---- refusals 4 to 8
 
@@ -43,14 +38,14 @@ pub stop-call : (l n : Bool) (f t : Status) (r : Refusal) → firstOf (rungs l n
 unfolding firstOf unless
 stop-call false n f t r e = e
 stop-call true false f t r e = e
-stop-call true true f t r e = absurd (done-refused e)
+stop-call true true f t r e = absurd (refused-done (sym e))
 
 pub stop-facts : (l n : Bool) (f t : Status) (r : Refusal) → firstOf (rungs l n f Done) ≡ Refused r → firstOf (rungs l n f t) ≡ Refused r
 unfolding firstOf unless
 stop-facts false n f t r e = e
 stop-facts true false f t r e = e
 stop-facts true true (Refused q) t r e = e
-stop-facts true true Done t r e = absurd (done-refused e)
+stop-facts true true Done t r e = absurd (refused-done (sym e))
 
 -- nothing is refused on any rung
 pub record Passed (l n : Bool) (f t : Status) : Type 0 where

@@ -1,14 +1,18 @@
--- The scan of a group's counts.
+-- The scan of a group's counts, and what good groups say of their tables.
 -- Assumes nothing.
 use mathlib.Core.Path.{_≡_, refl, sym, _∙_, subst}
 use mathlib.Core.Bool.{Bool, true, false, _&&_}
+use mathlib.Core.List.{List}
 use Prim.Native.Nat.{ℕ, zero, suc, _+_, _*_, _≤_, _<_}
+use lib.IntN.{ℤ}
 use lib.Dec.{leb, eqb}
 use native.Mathlib.Omega.{arith}
 use borrow.Author.Tests.{le-leb, lt-leb}
 use Rattle.tables.specs.Scan.{allBelow, sumBelow}
+use Rattle.tables.proofs.Bools.{tests}
 use Rattle.tables.proofs.Scans.{sum-zero, sum-more, extend-one, all-of, all-fails}
-use Rattle.layout.specs.Groups.{goodGroup}
+use Rattle.layout.specs.declared.Header.{Header}
+use Rattle.layout.specs.Groups.{effectCount, stepCount, routeCount, goodGroup, goodGroups}
 
 -- after i owners: their sum so far, each within its bound
 pub record Summed (f : ℕ → ℕ) (owners i sum : ℕ) : Type 0 where
@@ -33,3 +37,17 @@ all-good f owners size i sum r l =
 pub one-bad : (f : ℕ → ℕ) (owners size i : ℕ) → i < owners → 1024 < f i → false ≡ goodGroup f owners size
 unfolding goodGroup
 one-bad f owners size i l q = rw (all-fails (λ i. leb (f i) 1024) owners i l (lt-leb (f i) 1024 q))
+
+-- the groups' tables are as large as their owners' counts say
+module _ (s : List ℤ) (h : Header) (p : goodGroups s h ≡ true) where
+  pub covers-effects : sumBelow (effectCount s h) (h .operations) ≡ h .effects
+  unfolding goodGroups goodGroup
+  covers-effects = let q = simp tests at p in q .0 .0 .1
+
+  pub covers-steps : sumBelow (stepCount s h) (h .flows) ≡ h .steps
+  unfolding goodGroups goodGroup
+  covers-steps = let q = simp tests at p in q .0 .1 .1
+
+  pub covers-routes : sumBelow (routeCount s h) (h .steps) ≡ h .routes
+  unfolding goodGroups goodGroup
+  covers-routes = let q = simp tests at p in q .1 .1

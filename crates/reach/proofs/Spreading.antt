@@ -8,6 +8,7 @@ use lib.IntN.{ℤ}
 use lib.ListN.{length, getD}
 use lib.Dec.{eqb}
 use native.Mathlib.Omega.{arith}
+use Rattle.tables.proofs.Bools.{or-assoc}
 use Rattle.tables.specs.Scan.{anyBelow}
 use Rattle.tables.specs.Table.{marked}
 use Rattle.tables.proofs.Scans.{any-zero, any-more}
@@ -19,10 +20,6 @@ use Rattle.layout.specs.Header.{firstTransition}
 use Rattle.layout.specs.Tables.{transition}
 use Rattle.reach.specs.Moves.{leaves, leads}
 use Rattle.reach.specs.Inner.{leadsBy, Spread}
-
-or-assoc : (a b c : Bool) → (a || b || c) ≡ (a || (b || c))
-or-assoc true b c = refl
-or-assoc false b c = refl
 
 -- the first k transitions have been scanned for state a
 pub record Spreading (s : List ℤ) (h : Header) (n a : ℕ) (before : List Bool) (k : ℕ) (after : List Bool) : Type 0 where

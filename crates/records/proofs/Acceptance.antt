@@ -10,6 +10,7 @@ use lib.Dec.{ltb}
 use native.Mathlib.Omega.{arith}
 use native.Mathlib.Decide.{decLt}
 use borrow.Author.Tests.{lt-ltb, le-ltb}
+use Rattle.answer.proofs.Distinct.{refused-done}
 use Rattle.tables.specs.Scan.{firstFail}
 use Rattle.tables.proofs.Bools.{bool-cases}
 use Rattle.tables.proofs.Scanned.{Scanned, first-fail, first-scan}
@@ -57,9 +58,6 @@ found s h k r =
     (subst (λ (n : ℕ). Scanned (goodIn (tablesOf s h)) 0 n k) (total-records s h) (first-scanned r))
 
 -- ---- acceptance
-
-refused-done : {r : Rattle.answer.specs.declared.Refusal.Refusal} → Refused r ≡ Done → ⊥
-refused-done e = let z : _≡_ {A = ℕ} 0 1 = cc in omega arith
 
 module _ (s : List ℤ) (a : checked s ≡ Done) where
   pub header-good : goodHeader s ≡ true

@@ -9,6 +9,7 @@ use lib.Dec.{eqb}
 use native.Mathlib.Omega.{arith}
 use native.Mathlib.Decide.{ℕ-discrete}
 use borrow.Author.Tests.{eq-eqb, ne-eqb}
+use Rattle.layout.proofs.Groups.{covers-steps, covers-routes}
 use Rattle.tables.specs.Scan.{sumBelow}
 use Rattle.tables.proofs.Bools.{tests, true-false}
 use Rattle.tables.proofs.Scans.{sum-suc, sum-mono}
@@ -72,23 +73,14 @@ some-routes s h r (performs e o q c) = omega arith
 some-routes s h r (branches e o t c) = omega arith
 
 module _ (s : List ℤ) (h : Header) (a : Accepted s h) where
-  -- the tables of steps and routes are as large as their owners' counts say
-  steps-sum : sumBelow (stepCount s h) (h .flows) ≡ h .steps
-  unfolding goodGroups goodGroup
-  steps-sum = let q = simp tests at (a .groups) in q .0 .1 .1
-
-  routes-sum : sumBelow (routeCount s h) (h .steps) ≡ h .routes
-  unfolding goodGroups goodGroup
-  routes-sum = let q = simp tests at (a .groups) in q .1 .1
-
   -- an owner's members lie in the table
   steps-in : (f : ℕ) → f < h .flows → flow s h f .w0 ≡ sumBelow (stepCount s h) f → stepsEnd s h f ≤ h .steps
   unfolding recordAt
-  steps-in f l e = omega (arith, sum-suc (stepCount s h) f, sum-mono (stepCount s h) (suc f) (h .flows) l, steps-sum)
+  steps-in f l e = omega (arith, sum-suc (stepCount s h) f, sum-mono (stepCount s h) (suc f) (h .flows) l, covers-steps s h (a .groups))
 
   routes-in : (i : ℕ) → i < h .steps → step s h i .w3 ≡ sumBelow (routeCount s h) i → routesEnd s h i ≤ h .routes
   unfolding recordAt
-  routes-in i l e = omega (arith, sum-suc (routeCount s h) i, sum-mono (routeCount s h) (suc i) (h .steps) l, routes-sum)
+  routes-in i l e = omega (arith, sum-suc (routeCount s h) i, sum-mono (routeCount s h) (suc i) (h .steps) l, covers-routes s h (a .groups))
 
   pub flow-ok : (f : ℕ) → f < h .flows → FlowOk s h f
   unfolding goodFlow

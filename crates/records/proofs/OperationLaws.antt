@@ -9,6 +9,7 @@ use lib.IntN.{ℤ}
 use native.Mathlib.Omega.{arith}
 use native.Mathlib.Decide.{decLt}
 use borrow.Author.Tests.{eq-eqb, ne-eqb, eqb-true}
+use Rattle.layout.proofs.Groups.{covers-effects}
 use Rattle.tables.specs.Scan.{sumBelow}
 use Rattle.tables.proofs.Bools.{tests, and-left, or-cases, not-flip, true-false}
 use Rattle.tables.proofs.Scans.{any-at, any-none, sum-suc, sum-mono}
@@ -95,10 +96,6 @@ module _ {s : List ℤ} {h : Header} (a : Accepted s h) where
 
   -- ---- operations
 
-  effects-sum : sumBelow (effectCount s h) (h .operations) ≡ h .effects
-  unfolding goodGroups goodGroup
-  effects-sum = let q = simp tests at (a .groups) in q .0 .0 .1
-
   first-is : (o : ℕ) → o < h .operations → operation s h o .w2 ≡ sumBelow (effectCount s h) o
   unfolding goodOperation
   first-is o l = let q = simp tests at (a .operations o l) in q .0 .0 .0 .0 .1
@@ -119,7 +116,7 @@ module _ {s : List ℤ} {h : Header} (a : Accepted s h) where
         unnamed = not-flip _ (q .0 .0 .0 .0 .0 .1 .1);
         first = first-is o l;
         effects = q .0 .0 .0 .1;
-        end = omega (arith, end-is o l, sum-mono (effectCount s h) (suc o) (h .operations) l, effects-sum);
+        end = omega (arith, end-is o l, sum-mono (effectCount s h) (suc o) (h .operations) l, covers-effects s h (a .groups));
         outcomes = q .0 .0 .1;
         outcomes-few = q .0 .1;
       }
@@ -132,7 +129,7 @@ module _ {s : List ℤ} {h : Header} (a : Accepted s h) where
 
   module _ (e : ℕ) (inside : e < h .effects) where
     in-sum : e < sumBelow (effectCount s h) (h .operations)
-    in-sum = omega (arith, effects-sum)
+    in-sum = omega (arith, covers-effects s h (a .groups))
 
     -- each effect has an operation
     pub owner-exists : operationOf s h e < h .operations

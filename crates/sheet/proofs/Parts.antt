@@ -124,9 +124,6 @@ known-of {s} {h} f = record { type = f .type; top = λ j l. f .top j ∙ grown-a
 pub names-of : {s : List ℤ} {h : Header} {lows highs : List ℤ} {types tops : List ℕ} {named : List Bool} → Filled s h (h .nodes) lows highs types tops named → Names (NamedByNodes s h) named
 names-of f = record { long = f .name-long; is = f .name }
 
-pub not-done : {r : Refusal} → Refused r ≡ Done → ⊥
-not-done e = let z : _≡_ {A = ℕ} 0 1 = cc in omega arith
-
 pub at-most : (f : ℕ → Bool) (n : ℕ) {k : ℕ} → k ≡ firstFail f 0 n → k ≤ n
 at-most f n e = rw e (first-scan f n .high)
 

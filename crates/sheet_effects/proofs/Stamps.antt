@@ -10,6 +10,8 @@ use lib.Dec.{eqb, leb, ltb}
 use native.Mathlib.Omega.{arith}
 use native.Mathlib.Decide.{ℕ-discrete, decLt}
 use borrow.Author.Tests.{eq-eqb, ne-eqb, eqb-true, eqb-false}
+use Rattle.records.proofs.Parts.{few-outcomes}
+use Rattle.layout.proofs.Groups.{covers-effects}
 use Rattle.tables.specs.Scan.{anyBelow, sumBelow}
 use Rattle.tables.proofs.Bools.{tests, bool-cases, same-tests, true-false, or-cases}
 use Rattle.tables.proofs.Scans.{any-same, none-any, sum-mono}
@@ -29,13 +31,9 @@ starts-at : (s : List ℤ) (h : Header) (i : ℕ) → goodOperation s h i ≡ tr
 unfolding goodOperation recordAt
 starts-at s h i p = let q = simp tests at p in q .0 .0 .0 .0 .1
 
-pub few-outcomes : (s : List ℤ) (h : Header) (i : ℕ) → goodOperation s h i ≡ true → operation s h i .w4 ≤ 8
-unfolding goodOperation
-few-outcomes s h i p = let q = simp tests at p in q .0 .1
-
 pub covers : (s : List ℤ) (h : Header) → goodGroups s h ≡ true → sumBelow (λ k. operation s h k .w3) (h .operations) ≡ h .effects
-unfolding goodGroups goodGroup recordAt
-covers s h p = let q = simp tests at p in q .0 .0 .1
+unfolding recordAt
+covers s h p = covers-effects s h p
 
 module _ (s : List ℤ) (h : Header) (groups : goodGroups s h ≡ true) (good : (k : ℕ) → k < h .operations → goodOperation s h k ≡ true) where
   pub starts : (i : ℕ) → i < h .operations → operation s h i .w2 ≡ sumBelow (λ k. operation s h k .w3) i

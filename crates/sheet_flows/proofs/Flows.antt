@@ -7,6 +7,7 @@ use Prim.Native.Nat.{ℕ, zero, suc, _+_, _≤_, _<_}
 use lib.IntN.{ℤ}
 use lib.Dec.{eqb, leb}
 use native.Mathlib.Omega.{arith}
+use Rattle.layout.proofs.Groups.{covers-steps}
 use Rattle.tables.specs.Scan.{sumBelow, firstFail}
 use Rattle.tables.proofs.Bools.{tests}
 use Rattle.tables.proofs.Scans.{sum-zero, sum-more, sum-mono, extend-one}
@@ -18,14 +19,6 @@ use Rattle.layout.specs.Header.{firstFlow}
 use Rattle.layout.specs.Groups.{goodGroup, goodGroups, stepCount, routeCount}
 use Rattle.layout.specs.Tables.{flow, step}
 use Rattle.records.specs.Flows.{goodFlow, goodStep}
-
-pub covers-steps : (s : List ℤ) (h : Header) → goodGroups s h ≡ true → sumBelow (stepCount s h) (h .flows) ≡ h .steps
-unfolding goodGroups goodGroup
-covers-steps s h p = let q = simp tests at p in q .0 .1 .1
-
-pub covers-routes : (s : List ℤ) (h : Header) → goodGroups s h ≡ true → sumBelow (routeCount s h) (h .steps) ≡ h .routes
-unfolding goodGroups goodGroup
-covers-routes s h p = let q = simp tests at p in q .1 .1
 
 pub steps-of : (s : List ℤ) (h : Header) (f : ℕ) → flow s h f .w1 ≡ stepCount s h f
 unfolding recordAt

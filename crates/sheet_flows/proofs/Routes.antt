@@ -10,6 +10,7 @@ use native.Mathlib.Omega.{arith}
 use native.Mathlib.Numerals.{add-one}
 use native.Mathlib.Decide.{ℕ-discrete, decLt}
 use borrow.Author.Tests.{eq-eqb, ne-eqb}
+use Rattle.layout.proofs.Groups.{covers-steps, covers-routes}
 use Rattle.tables.specs.Scan.{sumBelow, firstFail}
 use Rattle.tables.proofs.Scans.{sum-zero, sum-more, sum-suc, sum-mono}
 use Rattle.tables.proofs.Scanned.{step as one-more, fail-at, fail-none}
@@ -23,7 +24,7 @@ use Rattle.layout.proofs.Owners.{holder-is, end-is}
 use Rattle.records.specs.Flows.{goodRoute, goodRouteOf, routesEnd, stepsEnd, flowOf, stepOf}
 use Rattle.sheet_flows.specs.declared.Cursor.{Cursor}
 use Rattle.sheet_flows.specs.Routes.{Ready, Room, At, Stretch, moved}
-use Rattle.sheet_flows.proofs.Flows.{covers-steps, covers-routes, steps-of, routes-of, flow-start, flow-some, step-start}
+use Rattle.sheet_flows.proofs.Flows.{steps-of, routes-of, flow-start, flow-some, step-start}
 
 module _ (s : List ℤ) (h : Header) (z : Ready s h) where
   flow-starts : (f : ℕ) → f < h .flows → flow s h f .w0 ≡ sumBelow (λ k. flow s h k .w1) f

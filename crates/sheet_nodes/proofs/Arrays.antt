@@ -15,7 +15,7 @@ use native.Mathlib.Decide.{ℕ-discrete, decLt}
 use borrow.Author.Tests.{lt-ltb, le-ltb, ltb-true}
 use Rattle.tables.specs.Scan.{anyBelow, firstFail}
 use Rattle.tables.specs.Table.{grown, entry, marked}
-use Rattle.tables.proofs.Bools.{tests, bool-cases, true-false, and-left, and-right, and-true, or-cases}
+use Rattle.tables.proofs.Bools.{tests, bool-cases, true-false, and-left, and-right, and-true, or-cases, or-assoc}
 use Rattle.tables.proofs.Scans.{any-more, any-zero, extend-one, below-suc}
 use Rattle.tables.proofs.Scanned.{fail-at, fail-none}
 use Rattle.tables.proofs.Grown.{length-grown, grown-at}
@@ -66,10 +66,6 @@ module _ {A B : Type 0} (f : (ℕ → A) → ℕ → A) (z : A) (p : A → B) (d
           pick : Dec (j < n) → getD (replicate n d) j d ≡ d
           pick (yes q) = getD-replicate n j d d q
           pick (no q) = List·getD-eq-default (replicate n d) d (rw (length-replicate n d) (omega arith))
-
-or-assoc : (a b c : Bool) → ((a || b) || c) ≡ (a || (b || c))
-or-assoc true b c = refl
-or-assoc false b c = refl
 
 -- ---- tests that do not look at what is missing
 

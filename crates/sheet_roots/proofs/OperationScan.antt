@@ -7,9 +7,10 @@ use Prim.Native.Nat.{ℕ, _+_, _≤_, _<_}
 use lib.IntN.{ℤ}
 use lib.Dec.{leb, eqb}
 use native.Mathlib.Omega.{arith}
+use Rattle.layout.proofs.Groups.{covers-effects}
 use Rattle.tables.specs.Scan.{anyBelow, sumBelow, firstFail}
 use Rattle.tables.specs.Table.{marked}
-use Rattle.tables.proofs.Bools.{tests}
+use Rattle.tables.proofs.Bools.{tests, or-assoc}
 use Rattle.tables.proofs.Scans.{any-more, any-zero, extend-one, sum-zero, sum-more, sum-mono}
 use Rattle.tables.proofs.Scanned.{fail-at, fail-none}
 use Rattle.tables.proofs.Entries.{or-false}
@@ -22,7 +23,7 @@ use Rattle.layout.specs.Tables.{operation}
 use Rattle.records.specs.Names.{namedByRules, namedByOperations, goodRoot}
 use Rattle.records.specs.Operations.{goodMask, goodOperation}
 use Rattle.sheet_roots.specs.Roots.{Typed, Names, rootTest}
-use Rattle.sheet_roots.proofs.Roots.{or-assoc, root-is, name-more, renamed}
+use Rattle.sheet_roots.proofs.Roots.{root-is, name-more, renamed}
 
 pub record Turn (s : List ℤ) (h : Header) (k sum : ℕ) (named : List Bool) : Type 0 where
   pub here : k ≤ h .operations
@@ -46,10 +47,6 @@ name-operation s h k a =
     or-assoc (namedByRules s h (h .rules) a) (anyBelow (λ j. eqb (operation s h j .w1) a) k) (eqb (operation s h k .w1) a)
     ∙ ap (λ t. namedByRules s h (h .rules) a || t) (sym (any-more (λ j. eqb (operation s h j .w1) a) k))
 
-covers : (s : List ℤ) (h : Header) → goodGroups s h ≡ true → sumBelow (effectCount s h) (h .operations) ≡ h .effects
-unfolding goodGroups goodGroup
-covers s h p = let q = simp tests at p in q .0 .0 .1
-
 count-of : (s : List ℤ) (h : Header) (k : ℕ) → operation s h k .w3 ≡ effectCount s h k
 unfolding recordAt
 count-of s h k = refl
@@ -60,7 +57,7 @@ module _ (s : List ℤ) (h : Header) (k sum : ℕ) (types : List ℕ) {named : L
   is = er ∙ rw eb
 
   pub fits : goodGroups s h ≡ true → sum + r .w3 ≤ h .effects
-  fits g = omega (arith, w .is, rw (← is) at (count-of s h k), sum-more (effectCount s h) k, sum-mono (effectCount s h) (k + 1) (h .operations) (omega arith), covers s h g)
+  fits g = omega (arith, w .is, rw (← is) at (count-of s h k), sum-more (effectCount s h) k, sum-mono (effectCount s h) (k + 1) (h .operations) (omega arith), covers-effects s h g)
 
   module _ {rooted m u : Bool} (eo : rooted ≡ rootTest h (r .w1) types named) (em : m ≡ goodMask h (r .w0)) (eu : u ≡ unused 5 r) where
     test : (m && rooted && eqb (r .w2) sum && leb 1 (r .w3) && leb 1 (r .w4) && leb (r .w4) 8 && u) ≡ goodOperation s h k

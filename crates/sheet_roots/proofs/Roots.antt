@@ -17,10 +17,6 @@ use Rattle.records.specs.Nodes.{typeOf}
 use Rattle.records.specs.Names.{goodRoot}
 use Rattle.sheet_roots.specs.Roots.{Typed, Names, rootTest}
 
-pub or-assoc : (a b c : Bool) → ((a || b) || c) ≡ (a || (b || c))
-or-assoc true b c = refl
-or-assoc false b c = refl
-
 -- the test from the arrays is the definition's
 pub root-is : (s : List ℤ) (h : Header) (a : ℕ) (types : List ℕ) {f : ℕ → Bool} {named : List Bool} → h .nodes ≤ 1024 → Typed s h types → Names f named → rootTest h a types named ≡ goodRoot s h a (f a)
 unfolding goodRoot

@@ -12,7 +12,7 @@ use native.Mathlib.Omega.{arith}
 use native.Mathlib.Decide.{decLt}
 use Rattle.tables.specs.Scan.{anyBelow, firstFail}
 use Rattle.tables.specs.Table.{marked}
-use Rattle.tables.proofs.Bools.{tests, bool-cases, and-no, and-false-left, and-false-right}
+use Rattle.tables.proofs.Bools.{tests, bool-cases, and-no, and-false-left, and-false-right, or-assoc}
 use Rattle.tables.proofs.Scans.{any-more, any-zero, extend-one}
 use Rattle.tables.proofs.Scanned.{fail-at, fail-none}
 use Rattle.tables.proofs.Entries.{or-false}
@@ -24,7 +24,7 @@ use Rattle.layout.specs.Tables.{rule}
 use Rattle.records.specs.Names.{namedByRules, goodRoot}
 use Rattle.records.specs.Rules.{stratum, citesLower, goodRule}
 use Rattle.sheet_roots.specs.Roots.{Known, Names, NamedByNodes, rootTest, topLower}
-use Rattle.sheet_roots.proofs.Roots.{or-assoc, root-is, name-more, renamed}
+use Rattle.sheet_roots.proofs.Roots.{root-is, name-more, renamed}
 use Rattle.sheet_roots.proofs.Cites.{cites-is, rising}
 
 pub record Turn (s : List ℤ) (h : Header) (k : ℕ) (named : List Bool) : Type 0 where

@@ -7,9 +7,10 @@ use Prim.Native.Nat.{ℕ, _+_, _≤_, _<_}
 use lib.IntN.{ℤ}
 use lib.Dec.{leb, eqb}
 use native.Mathlib.Omega.{arith}
+use Rattle.layout.proofs.Groups.{covers-routes}
 use Rattle.tables.specs.Scan.{anyBelow, sumBelow, firstFail}
 use Rattle.tables.specs.Table.{marked}
-use Rattle.tables.proofs.Bools.{tests}
+use Rattle.tables.proofs.Bools.{tests, or-assoc}
 use Rattle.tables.proofs.Scans.{any-more, any-zero, extend-one, sum-zero, sum-more, sum-mono}
 use Rattle.tables.proofs.Scanned.{fail-at, fail-none}
 use Rattle.tables.proofs.Entries.{or-false}
@@ -22,7 +23,7 @@ use Rattle.layout.specs.Tables.{step}
 use Rattle.records.specs.Names.{namedByOperations, namedBySteps, goodRoot}
 use Rattle.records.specs.Flows.{goodStep, goodBranchStep}
 use Rattle.sheet_roots.specs.Roots.{Typed, Names, rootTest, kindTest}
-use Rattle.sheet_roots.proofs.Roots.{or-assoc, root-is, name-more, renamed}
+use Rattle.sheet_roots.proofs.Roots.{root-is, name-more, renamed}
 
 pub record Turn (s : List ℤ) (h : Header) (k sum : ℕ) (named : List Bool) : Type 0 where
   pub here : k ≤ h .steps
@@ -48,10 +49,6 @@ unfolding namedBySteps
 name-step s h k a =
     or-assoc (namedByOperations s h (h .operations) a) (anyBelow (named-by s h a) k) (named-by s h a k) ∙ ap (λ t. namedByOperations s h (h .operations) a || t) (sym (any-more (named-by s h a) k))
 
-covers : (s : List ℤ) (h : Header) → goodGroups s h ≡ true → sumBelow (routeCount s h) (h .steps) ≡ h .routes
-unfolding goodGroups goodGroup
-covers s h p = let q = simp tests at p in q .1 .1
-
 count-of : (s : List ℤ) (h : Header) (k : ℕ) → step s h k .w4 ≡ routeCount s h k
 unfolding recordAt
 count-of s h k = refl
@@ -62,7 +59,7 @@ module _ (s : List ℤ) (h : Header) (k sum : ℕ) (types : List ℕ) {named : L
   is = er ∙ rw eb
 
   pub fits : goodGroups s h ≡ true → sum + r .w4 ≤ h .routes
-  fits g = omega (arith, w .is, rw (← is) at (count-of s h k), sum-more (routeCount s h) k, sum-mono (routeCount s h) (k + 1) (h .steps) (omega arith), covers s h g)
+  fits g = omega (arith, w .is, rw (← is) at (count-of s h k), sum-more (routeCount s h) k, sum-mono (routeCount s h) (k + 1) (h .steps) (omega arith), covers-routes s h g)
 
   module _ {rooted m u : Bool} (eo : rooted ≡ rootTest h (r .w1) types named) (em : m ≡ kindTest s h r rooted) (eu : u ≡ unused 5 r) where
     test : (m && eqb (r .w3) sum && u) ≡ goodStep s h k

@@ -3,7 +3,6 @@
 ghost use Prim.Native.Nat.{_+_, _≤_, _<_};
 
 mod largest;
-mod numbers;
 mod sheets;
 
 use answer::Status;
@@ -100,7 +99,7 @@ fn main() {
     let mut text = io::large_buffer();
     let n = io::read_full(0, &mut text);
     let mut tape = [0i64; 8192];
-    let end = numbers::read(&text[..n], &mut tape);
+    let end = script::read(&text[..n], &mut tape);
     let cases = run_all(&tape, end);
     sweep(&tape, -1, cases);
     sweep(&tape, -9_223_372_036_854_775_808, cases + 152);

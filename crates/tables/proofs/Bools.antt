@@ -104,3 +104,7 @@ mid-yes false b = refl
 pub mid-no : (a b : Bool) → (a && false && b) ≡ false
 mid-no true b = refl
 mid-no false b = refl
+
+pub or-assoc : (a b c : Bool) → (a || b || c) ≡ (a || (b || c))
+or-assoc true b c = refl
+or-assoc false b c = refl

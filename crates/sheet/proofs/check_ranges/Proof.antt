@@ -1,5 +1,6 @@
 -- `sheet::check_ranges` meets its contract. Assumes nothing.
-use Rattle.sheet.proofs.Parts.{sized-of, answer-bad, answer-done, not-done}
+use Rattle.answer.proofs.Distinct.{refused-done}
+use Rattle.sheet.proofs.Parts.{sized-of, answer-bad, answer-done}
 use Rattle.records.proofs.Acceptance.{bad-header, bad-group}
 use Rattle.layout.proofs.Limits.{sixteen}
 use mathlib.Core.Path.{sym, _∙_}
@@ -30,7 +31,7 @@ same-length-2 : tie.Need-same-length-2
 same-length-2 c = search needs
 
 returns : tie.Need-returns
-returns c = (answer-bad _ (c .before .before .before .before .before .before .before .before .before .read .ensures) (sym (c .before .before .before .before .before .before .before .before .before .before .before .good-header .ensures) ∙ c .before .before .before .before .before .before .before .before .before .before .if1 .taken) (sym (c .before .before .before .before .before .before .before .before .good-groups .ensures) ∙ c .before .before .before .before .before .before .before .if2 .taken) (c .before .before .before .before .first-bad .ensures .0) (c .before .records .ensures) (c .if3 .taken), λ e. absurd (not-done e))
+returns c = (answer-bad _ (c .before .before .before .before .before .before .before .before .before .read .ensures) (sym (c .before .before .before .before .before .before .before .before .before .before .before .good-header .ensures) ∙ c .before .before .before .before .before .before .before .before .before .before .if1 .taken) (sym (c .before .before .before .before .before .before .before .before .good-groups .ensures) ∙ c .before .before .before .before .before .before .before .if2 .taken) (c .before .before .before .before .first-bad .ensures .0) (c .before .records .ensures) (c .if3 .taken), λ e. absurd (refused-done e))
 
 same-length-3 : tie.Need-same-length-3
 same-length-3 c = search needs
@@ -42,10 +43,10 @@ returns-2 : tie.Need-returns-2
 returns-2 c = (answer-done _ (c .before .before .before .before .before .before .before .before .before .read .ensures) (sym (c .before .before .before .before .before .before .before .before .before .before .before .good-header .ensures) ∙ c .before .before .before .before .before .before .before .before .before .before .if1 .taken) (sym (c .before .before .before .before .before .before .before .before .good-groups .ensures) ∙ c .before .before .before .before .before .before .before .if2 .taken) (c .before .before .before .before .first-bad .ensures .0) (c .before .records .ensures) (c .if3 .left), λ _. rw (← c .before .before .before .before .before .before .before .before .before .read .ensures) (c .before .before .before .before .first-bad .ensures .1 (omega (arith, c .if3 .left, c .before .records .ensures))))
 
 returns-3 : tie.Need-returns-3
-returns-3 c = (sym (bad-group _ (sym (c .before .before .before .before .good-header .ensures) ∙ c .before .before .before .if1 .taken) (rw (c .before .before .read .ensures) at (sym (c .before .good-groups .ensures) ∙ c .if2 .left))), λ e. absurd (not-done e))
+returns-3 c = (sym (bad-group _ (sym (c .before .before .before .before .good-header .ensures) ∙ c .before .before .before .if1 .taken) (rw (c .before .before .read .ensures) at (sym (c .before .good-groups .ensures) ∙ c .if2 .left))), λ e. absurd (refused-done e))
 
 returns-4 : tie.Need-returns-4
-returns-4 c = (sym (bad-header _ (sym (c .before .good-header .ensures) ∙ c .if1 .left)), λ e. absurd (not-done e))
+returns-4 c = (sym (bad-header _ (sym (c .before .good-header .ensures) ∙ c .if1 .left)), λ e. absurd (refused-done e))
 
 pub check-ranges-spec : {M : Type 1} → statement M
 check-ranges-spec =

@@ -1,11 +1,11 @@
--- `numbers::decimal` is safe: the negation of a value of at most 10^15 fits a word. Assumes nothing.
+-- `decimal` is safe: the negation of a value of at most 10^15 fits a word. Assumes nothing.
 use native.Mathlib.Omega.{arith}
 use lib.IntN.{pos, _-ℤ_}
 use Rattle.signed.proofs.Parts.{size-minus}
 use Rattle.signed.proofs.Fit.{back-of, fits-size}
 use borrow.Author.Needs.{needs}
-use Rattle.sheet_vectors.proofs.numbers.decimal.Statement.{statement}
-use Rattle.sheet_vectors.proofs.numbers.decimal.Tie as tie
+use Rattle.script.proofs.decimal.Statement.{statement}
+use Rattle.script.proofs.decimal.Tie as tie
 
 returns : tie.Need-returns
 returns c = search needs

@@ -1,4 +1,5 @@
-// Numbers from text: decimals, parted by any other byte. `<` and `>` stand for the least and the greatest word, `#` starts a comment.
+// A script for the programs that run cases: numbers from text, decimals parted by any other byte. `<` and `>` stand for the least and the
+// greatest word, `#` starts a comment.
 ghost use Prim.Native.Nat.{_≤_};
 ghost use lib.ListN.{length};
 use signed::to_word;

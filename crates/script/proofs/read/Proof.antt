@@ -1,10 +1,10 @@
--- `numbers::read` meets its contract. The invariant: no more numbers than the tape has room for. Assumes nothing.
+-- `read` meets its contract. The invariant: no more numbers than the tape has room for. Assumes nothing.
 use mathlib.Core.Path.{_≡_}
 use Prim.Native.Nat.{_≤_, _-_}
 use lib.ListN.{length}
 use borrow.Author.Needs.{needs}
-use Rattle.sheet_vectors.proofs.numbers.read.Statement.{statement}
-use Rattle.sheet_vectors.proofs.numbers.read.Tie as tie
+use Rattle.script.proofs.read.Statement.{statement}
+use Rattle.script.proofs.read.Tie as tie
 
 abbrev Inv-loop : tie.InvT-loop
 Inv-loop text tape₀ p₀ k₀ i₀ tape p k i = (i ≤ length text) × (k ≤ length tape) × (length tape ≡ length tape₀)

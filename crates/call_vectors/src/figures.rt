@@ -1,0 +1,45 @@
+// The reports S1 to S5 and S7, which are lent no buffer: each writes a line.
+use crate::buffers::number;
+use crate::lines;
+use answer::Count;
+
+// A report that takes one number.
+fn of_one(s: &[i64], call: usize, a: i64) -> Count {
+    match call {
+        9 => reports::states(s, a),
+        10 => reports::reachable(s, a),
+        14 => reports::stratum(s, a),
+        15 => reports::outcomes(s, a),
+        16 => reports::tree_size(s, a),
+        _ => reports::depth(s, a),
+    }
+}
+
+fn of_four(s: &[i64], call: usize, a: i64, b: i64, c: i64, d: i64) -> Count {
+    if call == 11 {
+        reports::admissible(s, a, b, c, d)
+    } else {
+        reports::can_cause(s, a, b, c, d)
+    }
+}
+
+fn taken(s: &[i64], tape: &[i64], call: usize, at: usize) -> Count {
+    let a = number(tape, at, 1);
+    match call {
+        11..=12 => of_four(
+            s,
+            call,
+            a,
+            number(tape, at, 2),
+            number(tape, at, 3),
+            number(tape, at, 4),
+        ),
+        13 => reports::rules(s),
+        _ => of_one(s, call, a),
+    }
+}
+
+pub fn report(s: &[i64], tape: &[i64], call: usize, at: usize, case: usize) {
+    lines::count(case, taken(s, tape, call, at));
+    lines::end();
+}

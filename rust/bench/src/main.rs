@@ -1,0 +1,319 @@
+//! `bench [MILLISECONDS]`: each call on the largest sheet, an eighth of it, and 01's sheet.
+//!
+//! At last runs that are hard where a precondition is worked out again for each step.
+//!
+//! The library and the reference are timed in turns in one process, the best of many rounds counts. Each case is
+//! timed for so many milliseconds (300 unless told). The answers are compared before.
+
+use difference::generate::{
+    self, Sheet, EFFECTS, ENTITIES, FACTS, FLOWS, NODES, OPERATIONS, PERSONAS, ROUTES, STEPS, TRANSITIONS,
+};
+use difference::random::Random;
+use fernpocket::{example, raw};
+use std::env;
+use std::hint::black_box;
+use std::time::{Duration, Instant};
+
+/// The call on both sides; the library's is missing where the archive lacks it.
+struct Case {
+    name: &'static str,
+    library: Option<Box<dyn FnMut() -> [i64; 4]>>,
+    reference: Box<dyn FnMut() -> [i64; 4]>,
+    /// How long the text is, for calls on text.
+    bytes: usize,
+}
+
+/// The best times of a call in nanoseconds.
+struct Times {
+    library: Option<f64>,
+    reference: f64,
+}
+
+/// A sheet's name, words, bytes of text, and the calls on it with their times.
+type Timed = (&'static str, usize, usize, Vec<(Case, Times)>);
+
+/// A sheet, and arguments that make each call work hard.
+struct Desk {
+    words: Vec<i64>,
+    text: Vec<u8>,
+    values: Vec<i64>,
+    given: Vec<i64>,
+    rules: usize,
+    states: Vec<i64>,
+    persona: i64,
+    operation: i64,
+    run_flow: i64,
+    entity: i64,
+    from: i64,
+    to: i64,
+    long_flow: i64,
+    steps: usize,
+    node: i64,
+    rule: i64,
+}
+
+fn main() {
+    let milliseconds = env::args().nth(1).and_then(|word| word.parse().ok()).unwrap_or(300);
+    let time = Duration::from_millis(milliseconds);
+    let sheets = [(8, "Largest sheet"), (1, "An eighth")].map(|(eighths, name)| (name, Desk::random(eighths)));
+    let sheets = sheets.into_iter().chain([("01's sheet", Desk::of(&example_sheet(), 1))]);
+
+    let mut table: Vec<Timed> = vec![];
+    for (name, desk) in sheets {
+        let (words, bytes) = (desk.words.len(), desk.text.len());
+        // The cases hold it until the program ends.
+        let timed = cases(Box::leak(Box::new(desk))).into_iter().map(|mut case| {
+            let times = measure(&mut case, time);
+            (case, times)
+        });
+        table.push((name, words, bytes, timed.collect()));
+    }
+
+    println!("Times are the best of many rounds, library and reference in turns. Ratio: library / reference.\n");
+    for (name, words, bytes, cases) in &table {
+        println!("## {name}: {words} words, {bytes} bytes of text\n");
+        println!("| Call | Library, µs | Reference, µs | Ratio |");
+        println!("|---|---:|---:|---:|");
+        for (case, times) in cases {
+            let library = times.library.map_or("-".into(), |time| format!("{:.2}", time / 1e3));
+            let ratio = times.library.map_or("-".into(), |time| format!("{:.2}", time / times.reference));
+            println!("| {} | {library} | {:.2} | {ratio} |", case.name, times.reference / 1e3);
+        }
+        println!();
+    }
+
+    println!("## Text, million bytes a second\n");
+    println!("| Call | Sheet | Library | Reference |");
+    println!("|---|---|---:|---:|");
+    for (name, _, _, cases) in &table {
+        for (case, times) in cases.iter().filter(|(case, _)| case.bytes > 0) {
+            let speed = |time: f64| format!("{:.0}", case.bytes as f64 * 1e3 / time);
+            let library = times.library.map_or("-".into(), speed);
+            println!("| {} | {name} | {library} | {} |", case.name, speed(times.reference));
+        }
+    }
+
+    let (whole, eighth) = (&table[0], &table[1]);
+    let words = whole.1 as f64 / eighth.1 as f64;
+    println!("\n## Growth from the eighth to the largest sheet, which has {words:.2} times the words\n");
+    println!("| Call | Library | Reference |");
+    println!("|---|---:|---:|");
+    for ((case, large), (_, small)) in whole.3.iter().zip(&eighth.3) {
+        let library = large.library.zip(small.library).map_or("-".into(), |(a, b)| format!("{:.2}", a / b));
+        println!("| {} | {library} | {:.2} |", case.name, large.reference / small.reference);
+    }
+
+    println!("\n## Hard runs: each step performs one operation, whose precondition is one deep tree\n");
+    println!("| Steps | Nodes | Library, µs | Reference, µs | Ratio |");
+    println!("|---:|---:|---:|---:|---:|");
+    for eighths in [1, 2, 4, 8] {
+        let (steps, nodes) = (32 * eighths, 128 * eighths);
+        let desk = Box::leak(Box::new(Desk::of(&hard_sheet(steps, nodes), 1)));
+        let mut run = cases(desk).into_iter().find(|case| case.name == "run").expect("run is among the calls");
+        let times = measure(&mut run, time);
+        let library = times.library.map_or("-".into(), |time| format!("{:.2}", time / 1e3));
+        let ratio = times.library.map_or("-".into(), |time| format!("{:.2}", time / times.reference));
+        println!("| {steps} | {nodes} | {library} | {:.2} | {ratio} |", times.reference / 1e3);
+    }
+}
+
+/// A flow of so many steps of one operation, whose precondition is a chain of so many nodes.
+fn hard_sheet(steps: i64, nodes: i64) -> Sheet {
+    let mut sheet = Sheet { personas: 1, tables: Default::default() };
+    let mut add = |kind: usize, words: &[i64]| {
+        let mut record = [0; 8];
+        record[..words.len()].copy_from_slice(words);
+        sheet.tables[kind].push(record);
+    };
+    add(FACTS, &[0, 0, 1]);
+    add(NODES, &[3, 0]);
+    (1..nodes).for_each(|node| add(NODES, &[11, node - 1]));
+    add(ENTITIES, &[1, 0]);
+    add(TRANSITIONS, &[0, 0, 0]);
+    add(OPERATIONS, &[1, nodes - 1, 0, 1, 1]);
+    add(EFFECTS, &[0, 0, 0, 0]);
+    add(FLOWS, &[0, steps]);
+    for step in 0..steps {
+        add(STEPS, &[0, 0, 0, 2 * step, 2]);
+        let on = if step + 1 < steps { [0, step + 1] } else { [1, 0] };
+        add(ROUTES, &on);
+        add(ROUTES, &on);
+    }
+    sheet
+}
+
+/// 01's sheet as tables.
+fn example_sheet() -> Sheet {
+    let words = example::sheet();
+    let mut sheet = Sheet { personas: words[1] as usize, tables: Default::default() };
+    let mut records = words[16..].chunks_exact(8).map(|record| record.try_into().unwrap());
+    for kind in 1..11 {
+        sheet.tables[kind] = records.by_ref().take(words[1 + kind] as usize).collect();
+    }
+    sheet
+}
+
+/// The best time of each side.
+fn measure(case: &mut Case, time: Duration) -> Times {
+    let expected = (case.reference)();
+    if let Some(library) = &mut case.library {
+        assert_eq!(library(), expected, "{}", case.name);
+    }
+    // A round takes at least some tens of microseconds, so that the clock does not count.
+    let mut calls = 1;
+    while sample(&mut case.reference, calls) < 50e3 {
+        calls *= 2;
+    }
+    let mut best = Times { library: None, reference: f64::MAX };
+    let start = Instant::now();
+    while start.elapsed() < time {
+        if let Some(library) = &mut case.library {
+            let time = sample(library, calls) / calls as f64;
+            best.library = Some(best.library.unwrap_or(f64::MAX).min(time));
+        }
+        best.reference = best.reference.min(sample(&mut case.reference, calls) / calls as f64);
+    }
+    best
+}
+
+/// The nanoseconds of so many calls.
+fn sample(call: &mut Box<dyn FnMut() -> [i64; 4]>, calls: usize) -> f64 {
+    let start = Instant::now();
+    for _ in 0..calls {
+        black_box(call());
+    }
+    start.elapsed().as_nanos() as f64
+}
+
+impl Desk {
+    fn random(eighths: usize) -> Desk {
+        Desk::of(&generate::full(eighths, &mut Random::new(1)), 2)
+    }
+
+    /// Looks for facts and arguments under which an operation goes through and a run is long.
+    fn of(sheet: &Sheet, seed: u64) -> Desk {
+        let mut random = Random::new(seed);
+        let words = sheet.words();
+        let mut text = vec![0; 12 * words.len()];
+        let length = reference::write_text(&words, &mut text).value as usize;
+        text.truncate(length);
+        let states: Vec<i64> = sheet.tables[ENTITIES].iter().map(|entity| entity[1]).collect();
+        let given = vec![1; sheet.count(FACTS)];
+        let steps = (0..sheet.count(FLOWS)).map(|flow| sheet.steps_of(flow).1).max().unwrap_or(0);
+
+        let (mut values, mut run_flow, mut longest) = (vec![], 0, -1);
+        for _ in 0..400 {
+            let tried: Vec<i64> = (0..given.len()).map(|fact| sheet.value_of(fact, &mut random)).collect();
+            let flow = random.below(sheet.count(FLOWS)) as i64;
+            let run = reference::run(&words, &tried, &given, &mut states.clone(), flow, &mut vec![0; steps]);
+            if run.length > longest {
+                (values, run_flow, longest) = (tried, flow, run.length);
+            }
+        }
+        let (mut persona, mut operation) = (0, 0);
+        for _ in 0..2000 {
+            let tried = (random.below(sheet.count(PERSONAS)) as i64, random.below(sheet.count(OPERATIONS)) as i64);
+            let answer = reference::operate(&words, &values, &given, &mut states.clone(), tried.0, tried.1);
+            if answer.refusal == 0 {
+                (persona, operation) = tried;
+                break;
+            }
+        }
+        let [entity, from, to, ..] = *sheet.tables[EFFECTS].last().expect("the sheet has effects");
+        let largest =
+            |count: usize, size: &dyn Fn(i64) -> i64| (0..count as i64).max_by_key(|&number| size(number)).unwrap_or(0);
+        Desk {
+            text,
+            rules: sheet.count(generate::RULES),
+            persona,
+            operation,
+            run_flow,
+            entity,
+            from,
+            to,
+            long_flow: largest(sheet.count(FLOWS), &|flow| reference::depth(&words, flow).value),
+            steps,
+            node: largest(sheet.count(NODES), &|node| reference::tree_size(&words, node).value),
+            rule: sheet.count(generate::RULES) as i64 - 1,
+            words,
+            values,
+            given,
+            states,
+        }
+    }
+}
+
+/// The case of a call, compiled once for each side, with `$side` naming its functions.
+macro_rules! case {
+    ($name:literal, $bytes:expr, [$($buffer:ident = $content:expr),*], |$side:ident| $call:expr) => {{
+        let make = |library: bool| -> Box<dyn FnMut() -> [i64; 4]> {
+            $(#[allow(unused_mut)] let mut $buffer = $content;)*
+            if library {
+                use raw as $side;
+                Box::new(move || numbers!($call))
+            } else {
+                use reference as $side;
+                Box::new(move || numbers!($call))
+            }
+        };
+        Case { name: $name, library: raw::present($name).then(|| make(true)), reference: make(false), bytes: $bytes }
+    }};
+}
+
+macro_rules! numbers {
+    ($call:expr) => {{
+        let answer = $call;
+        [answer.refusal, answer.place, answer.value, answer.length]
+    }};
+}
+
+fn cases(desk: &'static Desk) -> Vec<Case> {
+    let first = {
+        let mut path = vec![0u16; desk.steps];
+        reference::first(&desk.words, desk.long_flow, &mut path);
+        path
+    };
+    vec![
+        case!("check", 0, [], |side| side::check(&desk.words)),
+        case!("read_text", desk.text.len(), [words = vec![0i64; desk.words.len()]], |side| {
+            side::read_text(&desk.text, &mut words)
+        }),
+        case!("write_text", desk.text.len(), [text = vec![0u8; desk.text.len()]], |side| {
+            side::write_text(&desk.words, &mut text)
+        }),
+        case!("assemble", 0, [values = desk.values.clone()], |side| {
+            side::assemble(&desk.words, &mut values, &desk.given)
+        }),
+        case!("verdicts", 0, [out = vec![0i64; desk.rules]], |side| {
+            side::verdicts(&desk.words, &desk.values, &desk.given, &mut out)
+        }),
+        case!("operate", 0, [states = desk.states.clone()], |side| {
+            states.copy_from_slice(&desk.states);
+            side::operate(&desk.words, &desk.values, &desk.given, &mut states, desk.persona, desk.operation)
+        }),
+        case!("run", 0, [states = desk.states.clone(), path = vec![0u16; desk.steps]], |side| {
+            states.copy_from_slice(&desk.states);
+            side::run(&desk.words, &desk.values, &desk.given, &mut states, desk.run_flow, &mut path)
+        }),
+        case!("first", 0, [path = vec![0u16; desk.steps]], |side| {
+            side::first(&desk.words, desk.long_flow, &mut path)
+        }),
+        case!("next", 0, [path = first.clone(), start = first.clone()], |side| {
+            path.copy_from_slice(&start);
+            side::next(&desk.words, desk.long_flow, &mut path)
+        }),
+        case!("states", 0, [], |side| side::states(&desk.words, desk.entity)),
+        case!("reachable", 0, [], |side| side::reachable(&desk.words, desk.entity)),
+        case!("admissible", 0, [], |side| {
+            side::admissible(&desk.words, desk.entity, desk.from, desk.persona, desk.operation)
+        }),
+        case!("can_cause", 0, [], |side| {
+            side::can_cause(&desk.words, desk.persona, desk.entity, desk.from, desk.to)
+        }),
+        case!("rules", 0, [], |side| side::rules(&desk.words)),
+        case!("stratum", 0, [], |side| side::stratum(&desk.words, desk.rule)),
+        case!("outcomes", 0, [], |side| side::outcomes(&desk.words, desk.operation)),
+        case!("tree_size", 0, [], |side| side::tree_size(&desk.words, desk.node)),
+        case!("depth", 0, [], |side| side::depth(&desk.words, desk.long_flow)),
+    ]
+}

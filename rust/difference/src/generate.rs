@@ -1,0 +1,681 @@
+//! Accepted sheets, built directly from 01's rules, of every size up to the largest.
+
+use crate::random::Random;
+use reference::{HEADER, LIMITS, M};
+
+pub type Record = [i64; 8];
+
+/// Places of the counts in [`LIMITS`], and of the tables in [`Sheet::tables`] (which has no personas).
+pub const PERSONAS: usize = 0;
+pub const FACTS: usize = 1;
+pub const NODES: usize = 2;
+pub const RULES: usize = 3;
+pub const ENTITIES: usize = 4;
+pub const TRANSITIONS: usize = 5;
+pub const OPERATIONS: usize = 6;
+pub const EFFECTS: usize = 7;
+pub const FLOWS: usize = 8;
+pub const STEPS: usize = 9;
+pub const ROUTES: usize = 10;
+
+/// How large a sheet is wanted, and of what shape.
+#[derive(Clone, Debug)]
+pub struct Wish {
+    /// Wanted counts, in the header's order; what the rules do not allow is left out.
+    pub counts: [usize; 11],
+    /// Most states of an entity.
+    pub states: usize,
+    /// Of 10 routes that could go on to a step, how many do.
+    pub onward: usize,
+    /// One flow has all the steps that the others leave.
+    pub one_long_flow: bool,
+    /// The trees of rules, operations and branches take nearly all nodes; else many are named by nothing.
+    pub large_trees: bool,
+    /// Of 10 Bool nodes with room for two children, how many are comparisons.
+    pub comparisons: usize,
+}
+
+impl Wish {
+    /// The largest sheet, or so many eighths of it, with paths as long as can be.
+    pub fn eighths(eighths: usize) -> Self {
+        let mut counts = LIMITS.map(|limit| limit as usize * eighths / 8);
+        counts[PERSONAS] = LIMITS[PERSONAS] as usize;
+        Wish { counts, states: 16, onward: 10, one_long_flow: true, large_trees: true, comparisons: 4 }
+    }
+
+    /// A random size and shape.
+    pub fn random(random: &mut Random) -> Self {
+        let limits = LIMITS.map(|limit| limit as usize);
+        // How large in whole: most sheets are small, so that many are tried.
+        let scale = random.pick(&[1, 2, 3, 4, 6, 8, 8, 12, 16, 16, 24, 32, 64, 128, 256, 1024]);
+        let mut counts = [0; 11];
+        for (count, limit) in counts.iter_mut().zip(limits) {
+            *count = match random.below(12) {
+                0 => 0,
+                1 => limit.min(scale),
+                2 if scale >= 128 => limit,
+                _ => random.size(0, limit.min(scale)),
+            };
+        }
+        // Most sheets have something of everything, and room for paths of some length.
+        if random.chance(14, 15) {
+            for kind in [PERSONAS, ENTITIES, TRANSITIONS, OPERATIONS, FLOWS] {
+                counts[kind] = counts[kind].max(1);
+            }
+            counts[FACTS] = counts[FACTS].max(random.below(5));
+            counts[RULES] = counts[RULES].max(random.below(5));
+            counts[EFFECTS] = counts[EFFECTS].max(counts[OPERATIONS]).max(1 + random.below(6));
+            counts[STEPS] = counts[STEPS].max(counts[FLOWS]).max(1 + random.below(9));
+            counts[ROUTES] = counts[ROUTES].max(counts[STEPS] * (2 + random.below(2)));
+            let owners = counts[RULES] + counts[OPERATIONS] + counts[STEPS] / 3;
+            counts[NODES] = counts[NODES].max(owners * (1 + random.below(5)) + random.below(8)).min(limits[NODES]);
+        }
+        Wish {
+            counts,
+            states: random.pick(&[1, 2, 2, 3, 3, 4, 8, 16]),
+            onward: random.pick(&[0, 3, 5, 7, 8, 9, 10]),
+            one_long_flow: random.chance(1, 3),
+            large_trees: random.chance(1, 2),
+            comparisons: random.pick(&[2, 4, 8]),
+        }
+    }
+}
+
+/// A sheet as tables.
+#[derive(Clone, Debug)]
+pub struct Sheet {
+    pub personas: usize,
+    /// By kind as in the header; that of personas is empty.
+    pub tables: [Vec<Record>; 11],
+}
+
+impl Sheet {
+    pub fn words(&self) -> Vec<i64> {
+        let mut words = vec![1, self.personas as i64];
+        words.extend(self.tables[1..].iter().map(|table| table.len() as i64));
+        words.resize(HEADER, 0);
+        words.extend(self.tables.iter().flatten().flatten());
+        words
+    }
+
+    pub fn count(&self, kind: usize) -> usize {
+        match kind {
+            PERSONAS => self.personas,
+            _ => self.tables[kind].len(),
+        }
+    }
+
+    /// The first member and the number of members of an owner's group.
+    pub fn steps_of(&self, flow: usize) -> (usize, usize) {
+        let record = self.tables[FLOWS][flow];
+        (record[0] as usize, record[1] as usize)
+    }
+
+    /// A value of the fact that is in its range, ends more often.
+    pub fn value_of(&self, fact: usize, random: &mut Random) -> i64 {
+        let [_, min, max, ..] = self.tables[FACTS][fact];
+        match random.below(5) {
+            0 => min,
+            1 => max,
+            _ => random.within(min, max),
+        }
+    }
+}
+
+fn record(words: &[i64]) -> Record {
+    let mut record = [0; 8];
+    record[..words.len()].copy_from_slice(words);
+    record
+}
+
+/// An accepted sheet of the wanted size and shape.
+pub fn sheet(wish: &Wish, random: &mut Random) -> Sheet {
+    let mut sheet = Sheet { personas: wish.counts[PERSONAS], tables: Default::default() };
+    facts(wish, random, &mut sheet);
+    entities(wish, random, &mut sheet);
+    operations(wish, random, &mut sheet);
+    flows(wish, random, &mut sheet);
+    Trees::new(wish, random, &sheet).grow(wish, &mut sheet);
+    sheet
+}
+
+/// The largest sheet, or so many eighths of it, with every count as wanted.
+pub fn full(eighths: usize, random: &mut Random) -> Sheet {
+    let wish = Wish::eighths(eighths);
+    loop {
+        let sheet = sheet(&wish, random);
+        if (0..11).all(|kind| sheet.count(kind) == wish.counts[kind]) {
+            return sheet;
+        }
+    }
+}
+
+fn facts(wish: &Wish, random: &mut Random, sheet: &mut Sheet) {
+    let most_sets = random.pick(&[1, 2, 4, 128]);
+    let max_of_set: Vec<i64> = (0..128).map(|_| random.pick(&[0, 1, 2, 3, 100, 255])).collect();
+    for _ in 0..wish.counts[FACTS] {
+        let (kind, min, max, set) = match random.below(4) {
+            0 => (0, 0, 1, 0),
+            1 | 2 => {
+                let (a, b) = (number(random), number(random));
+                (1, a.min(b), a.max(b), 0)
+            }
+            _ => {
+                let set = random.below(most_sets);
+                (2, 0, max_of_set[set], set as i64)
+            }
+        };
+        let (has_default, default) = match random.below(4) {
+            0 => (0, 0),
+            1 => (1, min),
+            2 => (1, max),
+            _ => (1, random.within(min, max)),
+        };
+        sheet.tables[FACTS].push(record(&[kind, min, max, has_default, default, set]));
+    }
+}
+
+/// A number of −M..M: small ones, ends and any.
+fn number(random: &mut Random) -> i64 {
+    match random.below(8) {
+        0 => random.pick(&[-M, M, M - 1, 1 - M, 0]),
+        1 => random.within(-M, M),
+        2 => random.within(-100_000, 100_000),
+        _ => random.within(-9, 9),
+    }
+}
+
+fn entities(wish: &Wish, random: &mut Random, sheet: &mut Sheet) {
+    for _ in 0..wish.counts[ENTITIES] {
+        let states = if random.chance(1, 3) { wish.states } else { 1 + random.below(wish.states) };
+        sheet.tables[ENTITIES].push(record(&[states as i64, random.below(states) as i64]));
+    }
+    if sheet.tables[ENTITIES].is_empty() {
+        return;
+    }
+    for _ in 0..wish.counts[TRANSITIONS] {
+        let entity = random.below(sheet.tables[ENTITIES].len());
+        let states = sheet.tables[ENTITIES][entity][0] as usize;
+        let [from, to] = [0; 2].map(|_| random.below(states) as i64);
+        sheet.tables[TRANSITIONS].push(record(&[entity as i64, from, to]));
+    }
+}
+
+/// Splits a total into so many parts of at least one.
+fn split(total: usize, parts: usize, one_long: bool, random: &mut Random) -> Vec<usize> {
+    let mut sizes = vec![1; parts];
+    if one_long {
+        sizes[random.below(parts)] += total - parts;
+        return sizes;
+    }
+    for _ in parts..total {
+        sizes[random.below(parts)] += 1;
+    }
+    sizes
+}
+
+/// The preconditions are put in when the trees are grown.
+fn operations(wish: &Wish, random: &mut Random, sheet: &mut Sheet) {
+    let transitions = sheet.tables[TRANSITIONS].clone();
+    let count = wish.counts[OPERATIONS].min(wish.counts[EFFECTS]);
+    if sheet.personas == 0 || transitions.is_empty() || count == 0 {
+        return;
+    }
+    let long = random.chance(1, 8);
+    for size in split(wish.counts[EFFECTS], count, long, random) {
+        let first = sheet.tables[EFFECTS].len();
+        let rise = random.pick(&[0, 1, 2, 3, 5, 9]);
+        let mut outcome = 0;
+        let mut sources: Vec<[i64; 2]> = vec![];
+        // An operation may come out smaller where its outcomes are used up.
+        for _ in 0..size {
+            if !sources.is_empty() && outcome < 7 && random.chance(rise, 10) {
+                outcome += 1;
+                sources.clear();
+            }
+            let mut chosen = None;
+            for attempt in 0..40 {
+                let [entity, from, to, ..] = random.pick(&transitions);
+                // Alternatives of an entity that the outcome has already are liked.
+                let liked = attempt > 3 || sources.is_empty() || sources.iter().any(|s| s[0] == entity);
+                if liked && !sources.contains(&[entity, from]) {
+                    chosen = Some([entity, from, to]);
+                    break;
+                }
+            }
+            let chosen = match chosen {
+                Some(chosen) => chosen,
+                None if outcome < 7 => {
+                    outcome += 1;
+                    sources.clear();
+                    let [entity, from, to, ..] = random.pick(&transitions);
+                    [entity, from, to]
+                }
+                None => break,
+            };
+            sources.push([chosen[0], chosen[1]]);
+            sheet.tables[EFFECTS].push(record(&[chosen[0], chosen[1], chosen[2], outcome]));
+        }
+        let all = (1i64 << sheet.personas) - 1;
+        let mask = match random.below(3) {
+            0 => all,
+            1 => 1 << random.below(sheet.personas),
+            _ => random.within(1, all),
+        };
+        let effects = (sheet.tables[EFFECTS].len() - first) as i64;
+        sheet.tables[OPERATIONS].push(record(&[mask, 0, first as i64, effects, outcome + 1]));
+    }
+}
+
+/// The nodes of branches are put in when the trees are grown.
+fn flows(wish: &Wish, random: &mut Random, sheet: &mut Sheet) {
+    let outcomes: Vec<usize> = sheet.tables[OPERATIONS].iter().map(|record| record[4] as usize).collect();
+    let most_routes = wish.counts[ROUTES];
+    let steps = wish.counts[STEPS].min(most_routes / 2);
+    let flows = wish.counts[FLOWS].min(steps);
+    // Every node names or is named: the trees need a node for each rule, operation and branch.
+    let mut branches_left = wish.counts[NODES].saturating_sub(outcomes.len());
+    if flows == 0 || (outcomes.is_empty() && branches_left == 0) {
+        return;
+    }
+    // An operation for each step, or none for a branch.
+    let branchy = random.below(7);
+    let mut plan: Vec<Option<usize>> = vec![];
+    for _ in 0..steps {
+        if branches_left > 0 && (outcomes.is_empty() || random.chance(branchy, 10)) {
+            branches_left -= 1;
+            plan.push(None);
+        } else if !outcomes.is_empty() {
+            plan.push(Some(random.below(outcomes.len())));
+        }
+    }
+    // Then other operations, until the routes are as many as wanted; at last fewer steps.
+    let routes_of = |step: &Option<usize>| step.map_or(2, |operation| outcomes[operation] + 1);
+    let mut total: usize = plan.iter().map(routes_of).sum();
+    for _ in 0..20 * plan.len() {
+        let step = random.below(plan.len());
+        if total == most_routes || outcomes.is_empty() {
+            break;
+        }
+        if plan[step].is_some() {
+            let other = Some(random.below(outcomes.len()));
+            let changed = total - routes_of(&plan[step]) + routes_of(&other);
+            if changed.abs_diff(most_routes) <= total.abs_diff(most_routes) {
+                plan[step] = other;
+                total = changed;
+            }
+        }
+    }
+    while total > most_routes {
+        total -= plan.pop().map_or(0, |step| routes_of(&step));
+    }
+    if plan.is_empty() {
+        return;
+    }
+    let flows = flows.min(plan.len());
+    let mut step = 0;
+    for size in split(plan.len(), flows, wish.one_long_flow, random) {
+        sheet.tables[FLOWS].push(record(&[step as i64, size as i64]));
+        let end = step + size;
+        for (number, what) in plan.iter().enumerate().take(end).skip(step) {
+            let first = sheet.tables[ROUTES].len() as i64;
+            let routes = routes_of(what);
+            sheet.tables[STEPS].push(match what {
+                Some(operation) => {
+                    let persona = persona_for(sheet, *operation, random);
+                    record(&[0, *operation as i64, persona, first, routes as i64])
+                }
+                None => record(&[1, 0, 0, first, routes as i64]),
+            });
+            for _ in 0..routes {
+                let onward = number + 1 < end && random.chance(wish.onward, 10);
+                sheet.tables[ROUTES].push(if onward {
+                    let target = match random.below(4) {
+                        0 => number + 1 + random.below(end - number - 1),
+                        1 => (number + 1 + random.below(4)).min(end - 1),
+                        _ => number + 1,
+                    };
+                    record(&[0, target as i64])
+                } else {
+                    record(&[1, random.below(3) as i64])
+                });
+            }
+        }
+        step = end;
+    }
+}
+
+/// A persona, mostly one of the operation's mask.
+fn persona_for(sheet: &Sheet, operation: usize, random: &mut Random) -> i64 {
+    let mask = sheet.tables[OPERATIONS][operation][0];
+    let persona = random.below(sheet.personas);
+    if random.chance(1, 6) {
+        return persona as i64;
+    }
+    (0..sheet.personas).map(|p| (p + persona) % sheet.personas).find(|p| mask >> p & 1 == 1).unwrap() as i64
+}
+
+#[derive(Clone, Copy, PartialEq, Eq)]
+enum Sort {
+    Int,
+    Bool,
+    Enum(i64),
+}
+
+/// A node before it has its number.
+struct Twig {
+    record: Record,
+    /// For each child, the record's word that will name it.
+    children: Vec<(usize, usize)>,
+    low: i64,
+    high: i64,
+}
+
+struct Trees<'a> {
+    random: &'a mut Random,
+    facts: Vec<Record>,
+    strata: Vec<i64>,
+    twigs: Vec<Twig>,
+    /// Rules below this number may be cited in the tree at hand.
+    citable: usize,
+    comparisons: usize,
+    /// Trees are chains, by their left or their right children.
+    chain: Option<bool>,
+}
+
+impl<'a> Trees<'a> {
+    fn new(wish: &Wish, random: &'a mut Random, sheet: &Sheet) -> Self {
+        let branches = sheet.tables[STEPS].iter().filter(|step| step[0] == 1).count();
+        let owners = sheet.tables[OPERATIONS].len() + branches;
+        let room = (LIMITS[NODES] as usize).min(wish.counts[NODES].max(owners));
+        let rules = wish.counts[RULES].min(room - owners);
+        let chain = random.chance(1, 8).then(|| random.chance(1, 2));
+        let steep = random.pick(&[1, 3, 8, 16]);
+        let mut strata: Vec<i64> = (0..rules).map(|_| random.below(steep) as i64).collect();
+        strata.sort();
+        Trees {
+            random,
+            facts: sheet.tables[FACTS].clone(),
+            strata,
+            twigs: vec![],
+            citable: 0,
+            comparisons: wish.comparisons,
+            chain,
+        }
+    }
+
+    /// Grows the trees of all owners, and others that nothing names; numbers the nodes; fills in the owners.
+    fn grow(mut self, wish: &Wish, sheet: &mut Sheet) {
+        let branches: Vec<usize> =
+            (0..sheet.tables[STEPS].len()).filter(|&step| sheet.tables[STEPS][step][0] == 1).collect();
+        let rules = self.strata.len();
+        let operations = sheet.tables[OPERATIONS].len();
+        let owners = rules + operations + branches.len();
+        let room = wish.counts[NODES].max(owners);
+
+        // How many nodes each owner's tree may have.
+        let mut budgets = vec![1; owners];
+        let spread = if wish.large_trees { room - owners } else { (room - owners) / 2 };
+        if owners > 0 {
+            let few = self.random.chance(1, 3).then(|| 1 + self.random.below(3.min(owners)));
+            for _ in 0..spread {
+                let owner = self.random.below(few.unwrap_or(owners));
+                budgets[owner] += 1;
+            }
+            self.random.shuffle(&mut budgets);
+        }
+        let mut roots = vec![];
+        for (owner, budget) in budgets.into_iter().enumerate() {
+            self.citable = match owner {
+                rule if rule < rules => self.strata.partition_point(|&stratum| stratum < self.strata[rule]),
+                _ => rules,
+            };
+            roots.push(self.tree(Sort::Bool, budget));
+        }
+        // Trees that nothing names may cite every rule.
+        self.citable = rules;
+        while self.twigs.len() < room {
+            let budget = self.random.size(1, (room - self.twigs.len()).min(40));
+            let sort = match self.random.below(4) {
+                0 => Sort::Int,
+                1 => self.some_set().map_or(Sort::Bool, Sort::Enum),
+                _ => Sort::Bool,
+            };
+            self.tree(sort, budget);
+        }
+
+        let numbers = self.numbers();
+        let mut nodes = vec![[0; 8]; self.twigs.len()];
+        for (twig, number) in self.twigs.iter().zip(&numbers) {
+            nodes[*number] = twig.record;
+            for (word, child) in &twig.children {
+                nodes[*number][*word] = numbers[*child] as i64;
+            }
+        }
+        sheet.tables[NODES] = nodes;
+        for (owner, root) in roots.into_iter().enumerate() {
+            let node = numbers[root] as i64;
+            if owner < rules {
+                sheet.tables[RULES].push(record(&[self.strata[owner], node]));
+            } else if owner < rules + operations {
+                sheet.tables[OPERATIONS][owner - rules][1] = node;
+            } else {
+                sheet.tables[STEPS][branches[owner - rules - operations]][1] = node;
+            }
+        }
+    }
+
+    /// Random numbers for the nodes, smaller ones for children.
+    fn numbers(&mut self) -> Vec<usize> {
+        let mut parent = vec![None; self.twigs.len()];
+        let mut waits: Vec<usize> = self.twigs.iter().map(|twig| twig.children.len()).collect();
+        for (number, twig) in self.twigs.iter().enumerate() {
+            for (_, child) in &twig.children {
+                parent[*child] = Some(number);
+            }
+        }
+        if self.random.chance(1, 4) {
+            // As they were grown: children stand just before their parent.
+            return (0..self.twigs.len()).collect();
+        }
+        let mut ready: Vec<usize> = (0..waits.len()).filter(|&twig| waits[twig] == 0).collect();
+        let mut numbers = vec![0; waits.len()];
+        for number in 0..waits.len() {
+            let place = self.random.below(ready.len());
+            let twig = ready.swap_remove(place);
+            numbers[twig] = number;
+            if let Some(parent) = parent[twig] {
+                waits[parent] -= 1;
+                if waits[parent] == 0 {
+                    ready.push(parent);
+                }
+            }
+        }
+        numbers
+    }
+
+    fn some_set(&mut self) -> Option<i64> {
+        let enums: Vec<i64> = self.facts.iter().filter(|fact| fact[0] == 2).map(|fact| fact[5]).collect();
+        match self.random.below(4) {
+            0 => Some(self.random.below(128) as i64),
+            _ if enums.is_empty() => None,
+            _ => Some(self.random.pick(&enums)),
+        }
+    }
+
+    fn push(&mut self, words: &[i64], children: &[(usize, usize)], low: i64, high: i64) -> usize {
+        self.twigs.push(Twig { record: record(words), children: children.to_vec(), low, high });
+        self.twigs.len() - 1
+    }
+
+    fn range(&self, twig: usize) -> (i64, i64) {
+        (self.twigs[twig].low, self.twigs[twig].high)
+    }
+
+    /// Grows a tree of this sort with at most so many nodes, and answers its root.
+    fn tree(&mut self, sort: Sort, budget: usize) -> usize {
+        match sort {
+            Sort::Bool => self.bool_tree(budget),
+            Sort::Int => self.int_tree(budget),
+            Sort::Enum(set) => self.enum_leaf(set),
+        }
+    }
+
+    fn fact_of(&mut self, wanted: impl Fn(&Record) -> bool) -> Option<usize> {
+        let facts: Vec<usize> = (0..self.facts.len()).filter(|&fact| wanted(&self.facts[fact])).collect();
+        if facts.is_empty() {
+            return None;
+        }
+        let fact = self.random.pick(&facts);
+        let [_, min, max, ..] = self.facts[fact];
+        Some(self.push(&[3, fact as i64], &[], min, max))
+    }
+
+    fn enum_leaf(&mut self, set: i64) -> usize {
+        if self.random.chance(3, 5) {
+            if let Some(twig) = self.fact_of(|fact| fact[0] == 2 && fact[5] == set) {
+                return twig;
+            }
+        }
+        let value = match self.random.below(3) {
+            0 => self.random.within(0, 255),
+            _ => self.random.within(0, 3),
+        };
+        self.push(&[2, value, set], &[], value, value)
+    }
+
+    fn bool_leaf(&mut self) -> usize {
+        if self.citable > 0 && self.random.chance(2, 5) {
+            let rule = self.random.below(self.citable) as i64;
+            return self.push(&[8, rule], &[], 0, 1);
+        }
+        if self.random.chance(4, 5) {
+            if let Some(twig) = self.fact_of(|fact| fact[0] == 0) {
+                return twig;
+            }
+        }
+        let value = self.random.chance(3, 5) as i64;
+        self.push(&[1, value], &[], value, value)
+    }
+
+    fn bool_tree(&mut self, budget: usize) -> usize {
+        if budget < 2 {
+            return self.bool_leaf();
+        }
+        if budget == 2 || self.random.chance(1, if budget < 8 { 4 } else { 8 }) {
+            let child = self.bool_tree(budget - 1);
+            let (low, high) = self.range(child);
+            return self.push(&[11], &[(1, child)], 1 - high, 1 - low);
+        }
+        let left = self.share(budget);
+        let right = budget - 1 - left;
+        if self.random.chance(self.comparisons, 10) {
+            let sort = match self.random.below(8) {
+                0 => Sort::Bool,
+                1 | 2 if budget < 6 => self.some_set().map_or(Sort::Int, Sort::Enum),
+                _ => Sort::Int,
+            };
+            let operator = self.random.below(if sort == Sort::Int { 6 } else { 2 }) as i64;
+            let x = self.tree(sort, left);
+            // Equal values, and ranges that just meet, are rare otherwise.
+            let y = match (sort, self.range(x)) {
+                (Sort::Int, (low, high)) if right == 1 && self.random.chance(2, 3) => {
+                    let inside = self.random.within(low, high);
+                    let value = self.random.pick(&[inside, low, high, low - 1, high + 1]).clamp(-M, M);
+                    self.push(&[0, value], &[], value, value)
+                }
+                _ => self.tree(sort, right),
+            };
+            let (some, some_not) = comparison_range(operator, self.range(x), self.range(y));
+            return self.push(&[7, operator], &[(2, x), (3, y)], !some_not as i64, some as i64);
+        }
+        let x = self.bool_tree(left);
+        let y = self.bool_tree(right);
+        let (a, b) = (self.range(x), self.range(y));
+        if self.random.chance(1, 2) {
+            self.push(&[9], &[(1, x), (2, y)], a.0.min(b.0), a.1.min(b.1))
+        } else {
+            self.push(&[10], &[(1, x), (2, y)], a.0.max(b.0), a.1.max(b.1))
+        }
+    }
+
+    /// How many of the nodes go to the left child: any part, or nearly all or none.
+    fn share(&mut self, budget: usize) -> usize {
+        match (self.chain, self.random.below(4)) {
+            (Some(false), _) | (None, 0) => 1,
+            (Some(true), _) | (None, 1) => budget - 2,
+            _ => 1 + self.random.below(budget - 2),
+        }
+    }
+
+    fn int_leaf(&mut self) -> usize {
+        if self.random.chance(3, 5) {
+            if let Some(twig) = self.fact_of(|fact| fact[0] == 1) {
+                return twig;
+            }
+        }
+        let value = number(self.random);
+        self.push(&[0, value], &[], value, value)
+    }
+
+    fn int_tree(&mut self, budget: usize) -> usize {
+        if budget < 2 {
+            return self.int_leaf();
+        }
+        if budget == 2 || self.random.chance(1, 6) {
+            let child = self.int_tree(budget - 1);
+            let (low, high) = self.range(child);
+            let size = low.abs().max(high.abs());
+            let most = if size == 0 { M } else { M / size };
+            let factor = match self.random.below(4) {
+                0 => most,
+                1 => 0,
+                2 => most.min(1),
+                _ => self.random.within(0, most.min(20)),
+            };
+            return self.push(&[6, 0, factor], &[(1, child)], low * factor, high * factor);
+        }
+        let left = self.share(budget);
+        let x = self.int_tree(left);
+        let (low, high) = self.range(x);
+        let before = self.twigs.len();
+        // A literal that just fits, now and then.
+        let y = match self.random.below(6) {
+            0 if budget - 1 - left == 1 => {
+                let value = (M - high).min(M);
+                self.push(&[0, value], &[], value, value)
+            }
+            1 if budget - 1 - left == 1 => {
+                let value = (low + M).min(M);
+                self.push(&[0, value], &[], value, value)
+            }
+            _ => self.int_tree(budget - 1 - left),
+        };
+        let (a, b) = self.range(y);
+        let sum = (low + a, high + b);
+        let difference = (low - b, high - a);
+        let fits = |range: (i64, i64)| -M <= range.0 && range.1 <= M;
+        match (fits(sum), fits(difference)) {
+            (true, both) if !both || self.random.chance(1, 2) => self.push(&[4], &[(1, x), (2, y)], sum.0, sum.1),
+            (_, true) => self.push(&[5], &[(1, x), (2, y)], difference.0, difference.1),
+            _ => {
+                // Neither fits: the second child is not used.
+                self.twigs.truncate(before);
+                x
+            }
+        }
+    }
+}
+
+fn comparison_range(operator: i64, x: (i64, i64), y: (i64, i64)) -> (bool, bool) {
+    let equal = x.0 <= y.1 && y.0 <= x.1;
+    let unequal = !(x.0 == x.1 && y == x);
+    match operator {
+        0 => (equal, unequal),
+        1 => (unequal, equal),
+        2 => (x.0 < y.1, x.1 >= y.0),
+        3 => (x.0 <= y.1, x.1 > y.0),
+        4 => (x.1 > y.0, x.0 <= y.1),
+        _ => (x.1 >= y.0, x.0 < y.1),
+    }
+}

@@ -1,0 +1,223 @@
+//! The reference against plainer ways to say the same, on random accepted sheets.
+
+use difference::generate::*;
+use difference::random::Random;
+use reference::Answer;
+
+/// Small random sheets.
+fn sheets(count: u64) -> impl Iterator<Item = (Sheet, Vec<i64>, Random)> {
+    (0..count).map(|seed| {
+        let mut random = Random::of_round(77, seed);
+        let mut wish = Wish::random(&mut random);
+        for (most, count) in [24, 12, 120, 12, 6, 40, 12, 40, 4, 14, 50].into_iter().zip(&mut wish.counts) {
+            *count = most.min(*count);
+        }
+        let sheet = sheet(&wish, &mut random);
+        let words = sheet.words();
+        assert_eq!(reference::check(&words), Answer::default());
+        (sheet, words, random)
+    })
+}
+
+/// All paths from a step on, with their terminals, by the definition.
+fn paths(sheet: &Sheet, step: usize, most: usize) -> Vec<(Vec<u16>, i64)> {
+    let [_, _, _, first, routes, ..] = sheet.tables[STEPS][step];
+    let mut all = vec![];
+    for route in first..first + routes {
+        match sheet.tables[ROUTES][route as usize] {
+            [0, next, ..] => {
+                for (mut path, terminal) in paths(sheet, next as usize, most) {
+                    path.insert(0, route as u16);
+                    all.push((path, terminal));
+                }
+            }
+            [_, terminal, ..] => all.push((vec![route as u16], terminal)),
+        }
+        if all.len() > most {
+            break;
+        }
+    }
+    all
+}
+
+#[test]
+fn listings_are_all_paths_in_order() {
+    let mut listed = 0;
+    for (sheet, words, mut random) in sheets(1500) {
+        for flow in 0..sheet.count(FLOWS) {
+            let (first, steps) = sheet.steps_of(flow);
+            let all = paths(&sheet, first, 1000);
+            if all.len() > 1000 {
+                continue;
+            }
+            assert!(all.windows(2).all(|pair| pair[0].0 < pair[1].0));
+            let longest = all.iter().map(|path| path.0.len()).max().unwrap();
+            assert_eq!(reference::depth(&words, flow as i64).value, longest as i64);
+            let mut buffer = vec![9; steps + random.below(3)];
+            let mut answer = reference::first(&words, flow as i64, &mut buffer);
+            for (path, terminal) in &all {
+                assert_eq!(answer, Answer { value: *terminal, length: path.len() as i64, ..Answer::default() });
+                assert_eq!(&buffer[..path.len()], &path[..]);
+                assert!(buffer[path.len()..].iter().all(|&route| route == 0));
+                listed += 1;
+                answer = reference::next(&words, flow as i64, &mut buffer);
+            }
+            assert_eq!(answer, Answer { refusal: 13, ..Answer::default() });
+        }
+    }
+    assert!(listed > 10_000, "{listed}");
+}
+
+/// The value of every node, children first; those that cite a rule without a verdict yet are worthless for now.
+fn values(sheet: &Sheet, facts: &[i64], verdicts: &[i64]) -> Vec<i64> {
+    let mut of: Vec<i64> = vec![];
+    for &[kind, a, b, c, ..] in &sheet.tables[NODES] {
+        let at = |node: i64| of[node as usize];
+        let value = match kind {
+            0..=2 => a,
+            3 => facts[a as usize],
+            4 => at(a) + at(b),
+            5 => at(a) - at(b),
+            6 => at(a) * b,
+            7 => {
+                let order = at(b).cmp(&at(c));
+                [order.is_eq(), order.is_ne(), order.is_lt(), order.is_le(), order.is_gt(), order.is_ge()][a as usize]
+                    as i64
+            }
+            8 => verdicts[a as usize],
+            9 => at(a) & at(b),
+            10 => at(a) | at(b),
+            _ => 1 - at(a),
+        };
+        of.push(value);
+    }
+    of
+}
+
+#[test]
+fn verdicts_runs_and_operations_by_the_definition() {
+    let (mut runs, mut moves) = (0, 0);
+    for (sheet, words, mut random) in sheets(1500) {
+        let facts: Vec<i64> = (0..sheet.count(FACTS)).map(|fact| sheet.value_of(fact, &mut random)).collect();
+        let given = vec![1; facts.len()];
+        // Stratum by stratum; a rule cites lower strata only.
+        let mut verdicts = vec![0; sheet.count(RULES)];
+        for stratum in 0..16 {
+            let of = values(&sheet, &facts, &verdicts);
+            for (rule, &[of_rule, when, ..]) in sheet.tables[RULES].iter().enumerate() {
+                if of_rule == stratum {
+                    verdicts[rule] = of[when as usize];
+                }
+            }
+        }
+        let mut found = vec![7; verdicts.len()];
+        assert_eq!(reference::verdicts(&words, &facts, &given, &mut found), Answer::default());
+        assert_eq!(found, verdicts);
+
+        let of = values(&sheet, &facts, &verdicts);
+        let start: Vec<i64> = (0..sheet.count(ENTITIES))
+            .map(|entity| random.below(sheet.tables[ENTITIES][entity][0] as usize) as i64)
+            .collect();
+        for flow in 0..sheet.count(FLOWS) {
+            // The run, step by step with the public operation.
+            let (first, steps) = sheet.steps_of(flow);
+            let mut states = start.clone();
+            let mut path = vec![];
+            let mut step = first;
+            let terminal = loop {
+                let [kind, what, persona, first, routes, ..] = sheet.tables[STEPS][step];
+                let route = if kind == 1 {
+                    first + 1 - of[what as usize]
+                } else {
+                    let before = states.clone();
+                    let answer = reference::operate(&words, &facts, &given, &mut states, persona, what);
+                    check_operation(&sheet, &of, what as usize, persona, &before, &states, answer);
+                    moves += (answer.refusal == 0) as usize;
+                    if answer.refusal == 0 {
+                        first + answer.value
+                    } else {
+                        first + routes - 1
+                    }
+                };
+                path.push(route as u16);
+                match sheet.tables[ROUTES][route as usize] {
+                    [0, next, ..] => step = next as usize,
+                    [_, terminal, ..] => break terminal,
+                }
+            };
+            let (mut left, mut buffer) = (start.clone(), vec![5; steps]);
+            let answer = reference::run(&words, &facts, &given, &mut left, flow as i64, &mut buffer);
+            assert_eq!(answer, Answer { value: terminal, length: path.len() as i64, ..Answer::default() });
+            path.resize(steps, 0);
+            assert_eq!((left, buffer), (states, path));
+            runs += 1;
+        }
+    }
+    assert!(runs > 1000 && moves > 1000, "{runs} runs, {moves} operations that went through");
+}
+
+/// An operation's answer and states by the definition, and S3a and S4 of what it did.
+fn check_operation(
+    sheet: &Sheet,
+    of: &[i64],
+    operation: usize,
+    persona: i64,
+    before: &[i64],
+    after: &[i64],
+    answer: Answer,
+) {
+    let [mask, precondition, first, count, outcomes, ..] = sheet.tables[OPERATIONS][operation];
+    let effects = &sheet.tables[EFFECTS][first as usize..(first + count) as usize];
+    let of_outcome = |outcome: i64| effects.iter().filter(move |effect| effect[3] == outcome);
+    let starts = |effect: &Record| before[effect[0] as usize] == effect[1];
+    let applicable = |outcome: &i64| {
+        of_outcome(*outcome).all(|named| of_outcome(*outcome).any(|other| other[0] == named[0] && starts(other)))
+    };
+    let mut expected = before.to_vec();
+    let refusal = if mask >> persona & 1 == 0 {
+        9
+    } else if of[precondition as usize] == 0 {
+        10
+    } else if let Some(outcome) = (0..outcomes).find(applicable) {
+        assert_eq!(answer.value, outcome);
+        let words = sheet.words();
+        for effect in of_outcome(outcome).filter(|effect| starts(effect)) {
+            expected[effect[0] as usize] = effect[2];
+            let [entity, from, to, ..] = *effect;
+            assert_eq!(reference::admissible(&words, entity, from, persona, operation as i64).value, 1);
+            assert_eq!(reference::can_cause(&words, persona, entity, from, to).value, 1);
+        }
+        0
+    } else {
+        11
+    };
+    assert_eq!((answer.refusal, after), (refusal, &expected[..]));
+}
+
+#[test]
+fn sizes_and_reached_states_by_the_definition() {
+    for (sheet, words, _) in sheets(600) {
+        let mut sizes: Vec<i64> = vec![];
+        for (node, &[kind, a, b, c, ..]) in sheet.tables[NODES].iter().enumerate() {
+            let children: &[i64] = match kind {
+                4 | 5 | 9 | 10 => &[a, b],
+                6 | 11 => &[a],
+                7 => &[b, c],
+                _ => &[],
+            };
+            sizes.push(1 + children.iter().map(|&child| sizes[child as usize]).sum::<i64>());
+            assert_eq!(reference::tree_size(&words, node as i64).value, sizes[node]);
+        }
+        for (entity, record) in sheet.tables[ENTITIES].iter().enumerate() {
+            let mut mask = 1 << record[1];
+            for _ in 0..16 {
+                for &[of, from, to, ..] in &sheet.tables[TRANSITIONS] {
+                    if of == entity as i64 && mask >> from & 1 == 1 {
+                        mask |= 1 << to;
+                    }
+                }
+            }
+            assert_eq!(reference::reachable(&words, entity as i64).value, mask);
+        }
+    }
+}

@@ -1,0 +1,353 @@
+//! Contract sheets: safe functions over the C exports of the verified library.
+//!
+//! A sheet is a slice of words. It holds facts, predicate nodes, rules, entities with their states and
+//! transitions, operations with their effects, and flows with their steps and routes. Every call that takes a
+//! sheet checks it first. Where a call is refused, each slice lent to it still holds what it held.
+//!
+//! ```
+//! use fernpocket::{check, example, run, Path, Reason, Terminal};
+//!
+//! let mut sheet = example::sheet();
+//! assert_eq!(check(&sheet), Ok(()));
+//!
+//! // Fact 0 is given as 1; entity 0 is in state 0.
+//! let (mut states, mut path) = ([0], [0; 2]);
+//! let end = run(&sheet, &[1], &[1], &mut states, 0, &mut path)?;
+//! assert_eq!(end, Path { terminal: Terminal::Success, length: 2 });
+//! assert_eq!((states, path), ([1], [0, 2]));
+//!
+//! sheet[16 + 8 * 8 + 3] = 2; // record 8 is an effect: its outcome
+//! let refusal = check(&sheet).unwrap_err();
+//! assert_eq!((refusal.reason, refusal.place), (Reason::Record, 8));
+//! # Ok::<(), fernpocket::Refusal>(())
+//! ```
+#![deny(missing_docs)]
+
+pub mod example;
+pub mod raw;
+mod refusal;
+
+use raw::Answer;
+pub use refusal::{Reason, Refusal};
+
+/// How a flow's path ends.
+#[derive(Clone, Copy, Debug, PartialEq, Eq, Hash)]
+pub enum Terminal {
+    /// Terminal 0.
+    Success,
+    /// Terminal 1.
+    Failure,
+    /// Terminal 2.
+    Escalation,
+}
+
+/// An answered path: the buffer's first `length` entries are its routes, the others are 0.
+#[derive(Clone, Copy, Debug, PartialEq, Eq, Hash)]
+pub struct Path {
+    /// How it ends.
+    pub terminal: Terminal,
+    /// How many routes it has.
+    pub length: usize,
+}
+
+fn accepted(answer: Answer) -> Result<Answer, Refusal> {
+    if answer.refusal == 0 {
+        return Ok(answer);
+    }
+    let reason = Reason::from_number(answer.refusal).expect("a refusal has a number of 1 to 15");
+    Err(Refusal { reason, place: answer.place as usize })
+}
+
+fn done(answer: Answer) -> Result<(), Refusal> {
+    accepted(answer).map(|_| ())
+}
+
+fn value(answer: Answer) -> Result<usize, Refusal> {
+    accepted(answer).map(|answer| answer.value as usize)
+}
+
+fn path_of(answer: Answer) -> Result<Path, Refusal> {
+    accepted(answer).map(|answer| Path {
+        terminal: match answer.value {
+            0 => Terminal::Success,
+            1 => Terminal::Failure,
+            _ => Terminal::Escalation,
+        },
+        length: answer.length as usize,
+    })
+}
+
+/// A number for C. One past i64 becomes one that never exists.
+fn number(number: usize) -> i64 {
+    i64::try_from(number).unwrap_or(i64::MAX)
+}
+
+/// Checks a sheet.
+///
+/// Refused for [`Reason::Header`], [`Reason::Groups`] and [`Reason::Record`]; so is each call below that takes a
+/// sheet.
+///
+/// ```
+/// use fernpocket::{check, Reason};
+///
+/// let empty = [1, 0, 0, 0, 0, 0, 0, 0, 0, 0, 0, 0, 0, 0, 0, 0];
+/// assert_eq!(check(&empty), Ok(()));
+/// assert_eq!(check(&empty[1..]).unwrap_err().reason, Reason::Header);
+/// ```
+pub fn check(sheet: &[i64]) -> Result<(), Refusal> {
+    done(raw::check(sheet))
+}
+
+/// Reads a text into the words and answers how many there were. Words past them stay as they were.
+///
+/// A line has eight decimals parted by one tab and ends with LF. Lines and words are judged, not the sheet.
+///
+/// ```
+/// use fernpocket::{read_text, Reason};
+///
+/// let mut words = [9; 10];
+/// assert_eq!(read_text(b"1\t-2\t0\t0\t0\t0\t0\t1000000000\n", &mut words), Ok(8));
+/// assert_eq!(words, [1, -2, 0, 0, 0, 0, 0, 1_000_000_000, 9, 9]);
+///
+/// let refusal = read_text(b"0\t0\t0\t0\t0\t0\t0\t0\n1\n", &mut words).unwrap_err();
+/// assert_eq!((refusal.reason, refusal.place), (Reason::Text, 1));
+/// assert_eq!(refusal.to_string(), "refused 14 at 1: bad text, or words that have no text");
+/// ```
+pub fn read_text(text: &[u8], words: &mut [i64]) -> Result<usize, Refusal> {
+    value(raw::read_text(text, words))
+}
+
+/// Writes the words as text and answers how many bytes that took. Bytes past them stay as they were.
+///
+/// ```
+/// use fernpocket::{example, write_text, Reason};
+///
+/// let mut text = [0; 400];
+/// let length = write_text(&example::sheet(), &mut text)?;
+/// assert_eq!(&text[..length], example::TEXT.as_bytes());
+///
+/// assert_eq!(write_text(&[0; 7], &mut text).unwrap_err().reason, Reason::Text);
+/// assert_eq!(write_text(&[0; 8], &mut text[..15]).unwrap_err().reason, Reason::Room);
+/// # Ok::<(), fernpocket::Refusal>(())
+/// ```
+pub fn write_text(words: &[i64], text: &mut [u8]) -> Result<usize, Refusal> {
+    value(raw::write_text(words, text))
+}
+
+/// Puts the defaults into the values of facts that are not given (flag 0).
+///
+/// ```
+/// use fernpocket::{assemble, example, Reason};
+///
+/// let mut values = [77];
+/// assemble(&example::sheet(), &mut values, &[0])?;
+/// assert_eq!(values, [0]);
+///
+/// let refusal = assemble(&example::sheet(), &mut [2], &[1]).unwrap_err();
+/// assert_eq!((refusal.reason, refusal.place), (Reason::Given, 0));
+/// # Ok::<(), fernpocket::Refusal>(())
+/// ```
+pub fn assemble(sheet: &[i64], values: &mut [i64], given: &[i64]) -> Result<(), Refusal> {
+    done(raw::assemble(sheet, values, given))
+}
+
+/// Writes each rule's verdict, 1 or 0.
+///
+/// ```
+/// use fernpocket::verdicts;
+///
+/// // One Bool fact without a default; rule 0: the fact is true.
+/// let sheet = [
+///     1, 0, 1, 1, 1, 0, 0, 0, 0, 0, 0, 0, 0, 0, 0, 0, //
+///     0, 0, 1, 0, 0, 0, 0, 0, //
+///     3, 0, 0, 0, 0, 0, 0, 0, //
+///     0, 0, 0, 0, 0, 0, 0, 0, //
+/// ];
+/// let mut out = [9];
+/// verdicts(&sheet, &[1], &[1], &mut out)?;
+/// assert_eq!(out, [1]);
+/// # Ok::<(), fernpocket::Refusal>(())
+/// ```
+pub fn verdicts(sheet: &[i64], values: &[i64], given: &[i64], verdicts: &mut [i64]) -> Result<(), Refusal> {
+    done(raw::verdicts(sheet, values, given, verdicts))
+}
+
+/// Performs an operation on the states and answers the outcome.
+///
+/// ```
+/// use fernpocket::{example, operate, Reason};
+///
+/// let sheet = example::sheet();
+/// let mut states = [0];
+/// assert_eq!(operate(&sheet, &[1], &[1], &mut states, 0, 0), Ok(0));
+/// assert_eq!(states, [1]);
+/// let again = operate(&sheet, &[1], &[1], &mut states, 0, 0).unwrap_err();
+/// assert_eq!(again.reason, Reason::Outcome);
+/// # Ok::<(), fernpocket::Refusal>(())
+/// ```
+pub fn operate(
+    sheet: &[i64],
+    values: &[i64],
+    given: &[i64],
+    states: &mut [i64],
+    persona: usize,
+    operation: usize,
+) -> Result<usize, Refusal> {
+    value(raw::operate(sheet, values, given, states, number(persona), number(operation)))
+}
+
+/// Runs a flow: changes the states, and puts the path in the buffer, which is at least as long as the flow has
+/// steps.
+///
+/// ```
+/// use fernpocket::{example, run, Path, Terminal};
+///
+/// let (mut states, mut path) = ([1], [0; 2]);
+/// let end = run(&example::sheet(), &[1], &[1], &mut states, 0, &mut path)?;
+/// assert_eq!(end, Path { terminal: Terminal::Escalation, length: 2 });
+/// assert_eq!((states, path), ([1], [0, 4]));
+/// # Ok::<(), fernpocket::Refusal>(())
+/// ```
+pub fn run(
+    sheet: &[i64],
+    values: &[i64],
+    given: &[i64],
+    states: &mut [i64],
+    flow: usize,
+    path: &mut [u16],
+) -> Result<Path, Refusal> {
+    path_of(raw::run(sheet, values, given, states, number(flow), path))
+}
+
+/// Puts a flow's first path in the buffer, which is at least as long as the flow has steps.
+///
+/// ```
+/// use fernpocket::{example, first, next, Reason};
+///
+/// let sheet = example::sheet();
+/// let mut buffer = [0; 2];
+/// let mut paths = vec![];
+/// let mut answer = first(&sheet, 0, &mut buffer);
+/// while let Ok(path) = answer {
+///     paths.push(buffer[..path.length].to_vec());
+///     answer = next(&sheet, 0, &mut buffer);
+/// }
+/// assert_eq!(answer.unwrap_err().reason, Reason::LastPath);
+/// assert_eq!(paths, [vec![0, 2], vec![0, 3], vec![0, 4], vec![1]]);
+/// # Ok::<(), fernpocket::Refusal>(())
+/// ```
+pub fn first(sheet: &[i64], flow: usize, path: &mut [u16]) -> Result<Path, Refusal> {
+    path_of(raw::first(sheet, number(flow), path))
+}
+
+/// Puts the path that follows the one at the buffer's head in the buffer. Past the last path it is refused with
+/// [`Reason::LastPath`] and leaves that path there.
+///
+/// ```
+/// use fernpocket::{example, next, Path, Reason, Terminal};
+///
+/// let mut buffer = [0, 4, 99];
+/// let path = next(&example::sheet(), 0, &mut buffer)?;
+/// assert_eq!(path, Path { terminal: Terminal::Failure, length: 1 });
+/// assert_eq!(buffer, [1, 0, 0]);
+/// assert_eq!(next(&example::sheet(), 0, &mut [3, 0]).unwrap_err().reason, Reason::NotAPath);
+/// # Ok::<(), fernpocket::Refusal>(())
+/// ```
+pub fn next(sheet: &[i64], flow: usize, path: &mut [u16]) -> Result<Path, Refusal> {
+    path_of(raw::next(sheet, number(flow), path))
+}
+
+/// S1: the number of an entity's states.
+///
+/// ```
+/// assert_eq!(fernpocket::states(&fernpocket::example::sheet(), 0), Ok(3));
+/// ```
+pub fn states(sheet: &[i64], entity: usize) -> Result<usize, Refusal> {
+    value(raw::states(sheet, number(entity)))
+}
+
+/// S2: the mask of the states that an entity reaches from its initial one; bit s is state s.
+///
+/// ```
+/// assert_eq!(fernpocket::reachable(&fernpocket::example::sheet(), 0), Ok(0b111));
+/// ```
+pub fn reachable(sheet: &[i64], entity: usize) -> Result<u16, Refusal> {
+    value(raw::reachable(sheet, number(entity))).map(|mask| mask as u16)
+}
+
+/// S3a: may the persona perform the operation with the entity in this state, as far as the sheet alone tells?
+///
+/// ```
+/// use fernpocket::{admissible, example};
+///
+/// assert_eq!(admissible(&example::sheet(), 0, 0, 0, 0), Ok(true));
+/// assert_eq!(admissible(&example::sheet(), 0, 1, 0, 0), Ok(false));
+/// ```
+pub fn admissible(
+    sheet: &[i64],
+    entity: usize,
+    state: usize,
+    persona: usize,
+    operation: usize,
+) -> Result<bool, Refusal> {
+    value(raw::admissible(sheet, number(entity), number(state), number(persona), number(operation))).map(|yes| yes == 1)
+}
+
+/// S4: can the persona cause the entity to go from one state to the other?
+///
+/// ```
+/// use fernpocket::{can_cause, example};
+///
+/// assert_eq!(can_cause(&example::sheet(), 0, 0, 0, 2), Ok(true));
+/// assert_eq!(can_cause(&example::sheet(), 0, 0, 1, 2), Ok(false));
+/// ```
+pub fn can_cause(sheet: &[i64], persona: usize, entity: usize, from: usize, to: usize) -> Result<bool, Refusal> {
+    value(raw::can_cause(sheet, number(persona), number(entity), number(from), number(to))).map(|yes| yes == 1)
+}
+
+/// S5: the number of rules.
+///
+/// ```
+/// assert_eq!(fernpocket::rules(&fernpocket::example::sheet()), Ok(0));
+/// ```
+pub fn rules(sheet: &[i64]) -> Result<usize, Refusal> {
+    value(raw::rules(sheet))
+}
+
+/// S5: a rule's stratum.
+///
+/// ```
+/// use fernpocket::{example, stratum, Reason};
+///
+/// assert_eq!(stratum(&example::sheet(), 0).unwrap_err().reason, Reason::Missing);
+/// ```
+pub fn stratum(sheet: &[i64], rule: usize) -> Result<usize, Refusal> {
+    value(raw::stratum(sheet, number(rule)))
+}
+
+/// S5: the number of an operation's outcomes.
+///
+/// ```
+/// assert_eq!(fernpocket::outcomes(&fernpocket::example::sheet(), 0), Ok(2));
+/// ```
+pub fn outcomes(sheet: &[i64], operation: usize) -> Result<usize, Refusal> {
+    value(raw::outcomes(sheet, number(operation)))
+}
+
+/// S7: the number of nodes in the tree under a node, itself counted.
+///
+/// ```
+/// assert_eq!(fernpocket::tree_size(&fernpocket::example::sheet(), 1), Ok(1));
+/// ```
+pub fn tree_size(sheet: &[i64], node: usize) -> Result<usize, Refusal> {
+    value(raw::tree_size(sheet, number(node)))
+}
+
+/// S7: the number of steps on a flow's longest path.
+///
+/// ```
+/// assert_eq!(fernpocket::depth(&fernpocket::example::sheet(), 0), Ok(2));
+/// ```
+pub fn depth(sheet: &[i64], flow: usize) -> Result<usize, Refusal> {
+    value(raw::depth(sheet, number(flow)))
+}

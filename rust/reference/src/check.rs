@@ -1,0 +1,377 @@
+//! The sheet checker: refusals 1, 2 and 3, in one pass over the records.
+
+use crate::tables::{below, Record, Tables};
+use crate::Refused;
+use std::ops::Deref;
+
+/// M, the largest size of a number.
+pub const M: i64 = 1_000_000_000;
+
+#[derive(Clone, Copy, PartialEq, Eq)]
+enum Type {
+    Int,
+    Bool,
+    Enum(u8),
+}
+
+/// What is known of a node that is good.
+#[derive(Clone, Copy)]
+struct Known {
+    kind: Type,
+    low: i32,
+    high: i32,
+    /// One more than the largest rule cited in the node's tree, 0 where none is.
+    cited: u8,
+    named: bool,
+}
+
+/// An accepted sheet.
+pub struct Sheet<'a> {
+    tables: Tables<'a>,
+    known: Vec<Known>,
+}
+
+impl<'a> Deref for Sheet<'a> {
+    type Target = Tables<'a>;
+
+    fn deref(&self) -> &Tables<'a> {
+        &self.tables
+    }
+}
+
+impl Sheet<'_> {
+    /// Does the range of this Bool node include 1?
+    pub fn may_hold(&self, node: usize) -> bool {
+        self.known[node].high == 1
+    }
+}
+
+/// A table's judgement: the first bad record's number in its table.
+type Judged = Result<(), usize>;
+
+/// The accepted sheet, or refusal 1, 2 or 3.
+pub fn check_sheet(words: &[i64]) -> Result<Sheet<'_>, Refused> {
+    let tables = Tables::read(words).ok_or(Refused::plain(1))?;
+    if !tables.groups_add_up() {
+        return Err(Refused::plain(2));
+    }
+    let mut known = Vec::with_capacity(tables.nodes.len());
+    let mut before = 0;
+    let mut judge = |judged: Judged, table: &[Record]| match judged {
+        Ok(()) => {
+            before += table.len();
+            Ok(())
+        }
+        Err(index) => Err(Refused::at(3, before + index)),
+    };
+    judge(facts(tables.facts), tables.facts)?;
+    judge(nodes(&tables, &mut known), tables.nodes)?;
+    judge(rules(tables.rules, &mut known), tables.rules)?;
+    judge(entities(tables.entities), tables.entities)?;
+    let mut declared = Declared::default();
+    judge(transitions(&tables, &mut declared), tables.transitions)?;
+    judge(operations(&tables, &mut known), tables.operations)?;
+    judge(effects(&tables, &declared), tables.effects)?;
+    judge(flows(tables.flows), tables.flows)?;
+    judge(steps(&tables, &mut known), tables.steps)?;
+    judge(routes(&tables), tables.routes)?;
+    Ok(Sheet { tables, known })
+}
+
+/// Judges each record of a table in turn.
+fn each(table: &[Record], mut good: impl FnMut(usize, &Record) -> bool) -> Judged {
+    match table.iter().enumerate().position(|(index, record)| !good(index, record)) {
+        None => Ok(()),
+        Some(index) => Err(index),
+    }
+}
+
+/// Are the words from this one on unused?
+fn unused(record: &Record, from: usize) -> bool {
+    record[from..].iter().fold(0, |all, word| all | word) == 0
+}
+
+fn facts(table: &[Record]) -> Judged {
+    let mut max_of_set = [None; 128];
+    each(table, |_, record| {
+        let [kind, min, max, has_default, default, set, ..] = *record;
+        let bounds = match kind {
+            0 => min == 0 && max == 1 && set == 0,
+            1 => -M <= min && min <= max && max <= M && set == 0,
+            2 => {
+                min == 0
+                    && (0..=255).contains(&max)
+                    && below(set, 128).is_some_and(|set| *max_of_set[set].get_or_insert(max) == max)
+            }
+            _ => false,
+        };
+        let default_good = match has_default {
+            0 => default == 0,
+            1 => min <= default && default <= max,
+            _ => false,
+        };
+        bounds && default_good && unused(record, 6)
+    })
+}
+
+fn nodes(tables: &Tables, known: &mut Vec<Known>) -> Judged {
+    each(tables.nodes, |_, record| match node(tables, known, record) {
+        Some(node) => {
+            known.push(node);
+            true
+        }
+        None => false,
+    })
+}
+
+/// What is known of a node, unless its record is bad. Its children are among the nodes known.
+fn node(tables: &Tables, known: &mut [Known], record: &Record) -> Option<Known> {
+    let [kind, a, b, c, ..] = *record;
+    let words = match kind {
+        0 | 1 | 3 | 8 | 11 => 1,
+        2 | 4 | 5 | 6 | 9 | 10 => 2,
+        7 => 3,
+        _ => return None,
+    };
+    if !unused(record, 1 + words) {
+        return None;
+    }
+    let leaf = |kind, low, high| known_node(kind, low, high, 0);
+    match kind {
+        0 => leaf(Type::Int, a, a),
+        1 => {
+            below(a, 2)?;
+            leaf(Type::Bool, a, a)
+        }
+        2 => {
+            below(a, 256)?;
+            leaf(Type::Enum(below(b, 128)? as u8), a, a)
+        }
+        3 => {
+            let [kind, min, max, _, _, set, ..] = tables.facts[below(a, tables.facts.len())?];
+            let kind = match kind {
+                0 => Type::Bool,
+                1 => Type::Int,
+                _ => Type::Enum(set as u8),
+            };
+            leaf(kind, min, max)
+        }
+        4 | 5 => {
+            let a = name(known, a, Type::Int)?;
+            let b = name(known, b, Type::Int)?;
+            let (low, high) = match kind {
+                4 => (a.low as i64 + b.low as i64, a.high as i64 + b.high as i64),
+                _ => (a.low as i64 - b.high as i64, a.high as i64 - b.low as i64),
+            };
+            known_node(Type::Int, low, high, a.cited.max(b.cited))
+        }
+        6 => {
+            let a = name(known, a, Type::Int)?;
+            if !(0..=M).contains(&b) {
+                return None;
+            }
+            known_node(Type::Int, a.low as i64 * b, a.high as i64 * b, a.cited)
+        }
+        7 => {
+            let operator = below(a, 6)?;
+            let x = name_any(known, b)?;
+            let y = name_any(known, c)?;
+            if x.kind != y.kind || (operator >= 2 && x.kind != Type::Int) {
+                return None;
+            }
+            let (some, some_not) = comparison(operator, &x, &y);
+            known_node(Type::Bool, !some_not as i64, some as i64, x.cited.max(y.cited))
+        }
+        8 => {
+            let rule = below(a, tables.rules.len())?;
+            known_node(Type::Bool, 0, 1, rule as u8 + 1)
+        }
+        9 | 10 => {
+            let x = name(known, a, Type::Bool)?;
+            let y = name(known, b, Type::Bool)?;
+            let (low, high) = match kind {
+                9 => (x.low.min(y.low), x.high.min(y.high)),
+                _ => (x.low.max(y.low), x.high.max(y.high)),
+            };
+            known_node(Type::Bool, low as i64, high as i64, x.cited.max(y.cited))
+        }
+        _ => {
+            let x = name(known, a, Type::Bool)?;
+            known_node(Type::Bool, 1 - x.high as i64, 1 - x.low as i64, x.cited)
+        }
+    }
+}
+
+/// A node with this range, unless it leaves −M..M.
+fn known_node(kind: Type, low: i64, high: i64, cited: u8) -> Option<Known> {
+    let fits = -M <= low && high <= M;
+    fits.then_some(Known { kind, low: low as i32, high: high as i32, cited, named: false })
+}
+
+/// The node that a word names. None where there is no such node, or it was named before.
+fn name_any(known: &mut [Known], word: i64) -> Option<Known> {
+    let node = known.get_mut(usize::try_from(word).ok()?)?;
+    let before = *node;
+    node.named = true;
+    (!before.named).then_some(before)
+}
+
+/// The same, of a wanted type.
+fn name(known: &mut [Known], word: i64, kind: Type) -> Option<Known> {
+    name_any(known, word).filter(|node| node.kind == kind)
+}
+
+/// Does some pair of values of the two ranges satisfy the comparison, and does some pair not?
+fn comparison(operator: usize, x: &Known, y: &Known) -> (bool, bool) {
+    let meet = x.low <= y.high && y.low <= x.high;
+    let differ = x.low != y.high || x.high != y.low;
+    match operator {
+        0 => (meet, differ),
+        1 => (differ, meet),
+        2 => (x.low < y.high, x.high >= y.low),
+        3 => (x.low <= y.high, x.high > y.low),
+        4 => (x.high > y.low, x.low <= y.high),
+        _ => (x.high >= y.low, x.low < y.high),
+    }
+}
+
+fn rules(table: &[Record], known: &mut [Known]) -> Judged {
+    each(table, |rule, record| {
+        let [stratum, when, ..] = *record;
+        let falls = rule > 0 && stratum < table[rule - 1][0];
+        // Strata do not fall, so the largest rule cited has the highest stratum cited.
+        let cites_lower = |cited: usize| cited <= rule && (cited == 0 || table[cited - 1][0] < stratum);
+        (0..=15).contains(&stratum)
+            && !falls
+            && name(known, when, Type::Bool).is_some_and(|node| cites_lower(node.cited as usize))
+            && unused(record, 2)
+    })
+}
+
+fn entities(table: &[Record]) -> Judged {
+    each(table, |_, record| {
+        let [states, initial, ..] = *record;
+        (1..=16).contains(&states) && (0..states).contains(&initial) && unused(record, 2)
+    })
+}
+
+/// The declared transitions: for each entity and state, the mask of the states that it may go to.
+#[derive(Default)]
+struct Declared([[u16; 16]; 32]);
+
+impl Declared {
+    fn has(&self, entity: usize, from: usize, to: usize) -> bool {
+        self.0[entity][from] >> to & 1 == 1
+    }
+}
+
+fn transitions(tables: &Tables, declared: &mut Declared) -> Judged {
+    each(tables.transitions, |_, record| {
+        let mut good = || {
+            let entity = below(record[0], tables.entities.len())?;
+            let from = below(record[1], tables.states_of(entity))?;
+            let to = below(record[2], tables.states_of(entity))?;
+            declared.0[entity][from] |= 1 << to;
+            Some(())
+        };
+        good().is_some() && unused(record, 3)
+    })
+}
+
+fn operations(tables: &Tables, known: &mut [Known]) -> Judged {
+    let mut expected = 0;
+    each(tables.operations, |_, record| {
+        let [mask, precondition, first, count, outcomes, ..] = *record;
+        let in_order = first == expected && count >= 1;
+        expected += count;
+        mask != 0
+            && below(mask, 1 << tables.personas).is_some()
+            && name(known, precondition, Type::Bool).is_some()
+            && in_order
+            && (1..=8).contains(&outcomes)
+            && unused(record, 5)
+    })
+}
+
+fn effects(tables: &Tables, declared: &Declared) -> Judged {
+    for operation in 0..tables.operations.len() {
+        let group = tables.group_of_operation(operation);
+        let last_outcome = tables.outcomes_of(operation) as i64 - 1;
+        let last_effect = group.end - 1;
+        let mut outcome = 0;
+        // The states that the present outcome already has effects from, by entity.
+        let mut sources = [0u16; 32];
+        for index in group.clone() {
+            let record = &tables.effects[index];
+            let rises = index > group.start && record[3] == outcome + 1;
+            if rises {
+                outcome += 1;
+                sources = [0; 32];
+            }
+            let mut good = || {
+                let entity = below(record[0], tables.entities.len())?;
+                let from = below(record[1], tables.states_of(entity))?;
+                let to = below(record[2], tables.states_of(entity))?;
+                let repeated = sources[entity] >> from & 1 == 1;
+                sources[entity] |= 1 << from;
+                (declared.has(entity, from, to) && !repeated).then_some(())
+            };
+            let in_order =
+                record[3] == outcome && outcome <= last_outcome && (index < last_effect || outcome == last_outcome);
+            if good().is_none() || !in_order || !unused(record, 4) {
+                return Err(index);
+            }
+        }
+    }
+    Ok(())
+}
+
+fn flows(table: &[Record]) -> Judged {
+    let mut expected = 0;
+    each(table, |_, record| {
+        let [first, count, ..] = *record;
+        let in_order = first == expected && count >= 1;
+        expected += count;
+        in_order && unused(record, 2)
+    })
+}
+
+fn steps(tables: &Tables, known: &mut [Known]) -> Judged {
+    let mut expected = 0;
+    each(tables.steps, |_, record| {
+        let [kind, what, persona, first, count, ..] = *record;
+        let in_order = first == expected;
+        expected += count;
+        let good = match kind {
+            0 => {
+                below(what, tables.operations.len())
+                    .is_some_and(|operation| count == tables.operations[operation][4] + 1)
+                    && below(persona, tables.personas).is_some()
+            }
+            1 => name(known, what, Type::Bool).is_some() && persona == 0 && count == 2,
+            _ => false,
+        };
+        good && in_order && unused(record, 5)
+    })
+}
+
+fn routes(tables: &Tables) -> Judged {
+    for flow in 0..tables.flows.len() {
+        let steps = tables.group_of_flow(flow);
+        for step in steps.clone() {
+            let later = step as i64 + 1..steps.end as i64;
+            for index in tables.group_of_step(step) {
+                let record = &tables.routes[index];
+                let good = match record[0] {
+                    0 => later.contains(&record[1]),
+                    1 => (0..=2).contains(&record[1]),
+                    _ => false,
+                };
+                if !good || !unused(record, 2) {
+                    return Err(index);
+                }
+            }
+        }
+    }
+    Ok(())
+}

@@ -1,0 +1,565 @@
+//! 01's whole sheet, its proved cases P1 to P10, and hand cases.
+
+use reference::*;
+
+const WHOLE: &str = "\
+1 1 1 2 0 1 2 1
+2 1 2 5 0 0 0 0
+0 0 1 1 0 0 0 0
+3 0 0 0 0 0 0 0
+1 1 0 0 0 0 0 0
+3 0 0 0 0 0 0 0
+0 0 1 0 0 0 0 0
+0 0 2 0 0 0 0 0
+1 1 0 2 2 0 0 0
+0 0 1 0 0 0 0 0
+0 0 2 1 0 0 0 0
+0 2 0 0 0 0 0 0
+1 0 0 0 2 0 0 0
+0 0 0 2 3 0 0 0
+0 1 0 0 0 0 0 0
+1 1 0 0 0 0 0 0
+1 0 0 0 0 0 0 0
+1 0 0 0 0 0 0 0
+1 2 0 0 0 0 0 0
+";
+
+fn good(value: i64, length: i64) -> Answer {
+    Answer { refusal: 0, place: 0, value, length }
+}
+
+fn refused(refusal: i64, place: i64) -> Answer {
+    Answer { refusal, place, value: 0, length: 0 }
+}
+
+fn words(text: &str) -> Vec<i64> {
+    let text = text.replace(' ', "\t");
+    let mut words = vec![0; text.lines().count() * 8];
+    assert_eq!(read_text(text.as_bytes(), &mut words), good(words.len() as i64, 0));
+    words
+}
+
+fn whole() -> Vec<i64> {
+    words(WHOLE)
+}
+
+/// A sheet with these tables, from facts to routes; records are filled up with zeros.
+fn sheet(personas: i64, tables: [&[&[i64]]; 10]) -> Vec<i64> {
+    let mut words = vec![1, personas];
+    words.extend(tables.iter().map(|table| table.len() as i64));
+    words.resize(16, 0);
+    for record in tables.iter().copied().flatten() {
+        let start = words.len();
+        words.extend_from_slice(record);
+        words.resize(start + 8, 0);
+    }
+    words
+}
+
+/// A sheet of facts, nodes and rules alone.
+fn logic(facts: &[&[i64]], nodes: &[&[i64]], rules: &[&[i64]]) -> Vec<i64> {
+    sheet(0, [facts, nodes, rules, &[], &[], &[], &[], &[], &[], &[]])
+}
+
+/// A sheet of one entity with 16 states, all transitions, and these operations and effects over true literals.
+fn desk(operations: &[&[i64]], effects: &[&[i64]]) -> Vec<i64> {
+    let nodes: Vec<&[i64]> = operations.iter().map(|_| &[1i64, 1] as &[i64]).collect();
+    let entities: [&[i64]; 3] = [&[4, 0], &[4, 1], &[4, 2]];
+    let all: Vec<[i64; 3]> = (0..48).map(|i| [i / 16, i / 4 % 4, i % 4]).collect();
+    let all: Vec<&[i64]> = all.iter().map(|t| t as &[i64]).collect();
+    sheet(3, [&[], &nodes, &[], &entities, &all, operations, effects, &[], &[], &[]])
+}
+
+fn listing(sheet: &[i64], flow: i64, room: usize) -> Vec<(i64, Vec<u16>)> {
+    let mut paths = vec![];
+    let mut buffer = vec![9999; room];
+    let mut answer = first(sheet, flow, &mut buffer);
+    while answer.refusal == 0 {
+        assert!(buffer[answer.length as usize..].iter().all(|&route| route == 0));
+        paths.push((answer.value, buffer[..answer.length as usize].to_vec()));
+        answer = next(sheet, flow, &mut buffer);
+    }
+    let last = &paths.last().unwrap().1;
+    assert_eq!(&buffer[..last.len()], &last[..]);
+    assert_eq!(answer, refused(13, 0));
+    paths
+}
+
+#[test]
+fn p1_four_paths() {
+    let expected = [(0, vec![0, 2]), (0, vec![0, 3]), (2, vec![0, 4]), (1, vec![1])];
+    assert_eq!(check(&whole()), good(0, 0));
+    assert_eq!(listing(&whole(), 0, 2), expected);
+    assert_eq!(listing(&whole(), 0, 7), expected);
+}
+
+#[test]
+fn p2_to_p4_runs() {
+    let sheet = whole();
+    for (given, state, answer, path, after) in
+        [(1, 0, good(0, 2), [0, 2, 0], 1), (0, 0, good(1, 1), [1, 0, 0], 0), (1, 1, good(2, 2), [0, 4, 0], 1)]
+    {
+        let mut states = [state];
+        let mut buffer = [7; 3];
+        assert_eq!(run(&sheet, &[1], &[given], &mut states, 0, &mut buffer), answer);
+        assert_eq!((buffer, states), (path, [after]));
+    }
+}
+
+#[test]
+fn p5_p6_reports() {
+    assert_eq!(reachable(&whole(), 0), good(7, 0));
+    assert_eq!(depth(&whole(), 0), good(2, 0));
+}
+
+#[test]
+fn p7_p8_refusals() {
+    let mut sheet = whole();
+    sheet[11] = 6;
+    assert_eq!(check(&sheet), refused(1, 0));
+    let mut sheet = whole();
+    sheet[16 + 8 * 8 + 3] = 2;
+    assert_eq!(check(&sheet), refused(3, 8));
+}
+
+#[test]
+fn p9_ranges() {
+    let sum = |literal| logic(&[&[1, 0, M]], &[&[3, 0], &[0, literal], &[4, 0, 1]], &[]);
+    assert_eq!(check(&sum(0)), good(0, 0));
+    assert_eq!(check(&sum(1)), refused(3, 3));
+}
+
+#[test]
+fn p10_given_value() {
+    let (sheet, mut states, mut path) = (whole(), [0], [5, 5]);
+    assert_eq!(run(&sheet, &[2], &[1], &mut states, 0, &mut path), refused(6, 0));
+    assert_eq!((states, path), ([0], [5, 5]));
+    assert_eq!(assemble(&sheet, &mut [2], &[1]), refused(6, 0));
+    assert_eq!(verdicts(&sheet, &[2], &[1], &mut []), refused(6, 0));
+    assert_eq!(operate(&sheet, &[2], &[1], &mut states, 0, 0), refused(6, 0));
+}
+
+#[test]
+fn reports_of_the_whole_sheet() {
+    let sheet = whole();
+    assert_eq!(states(&sheet, 0), good(3, 0));
+    assert_eq!(states(&sheet, 1), refused(5, 0));
+    assert_eq!(states(&sheet, -1), refused(5, 0));
+    assert_eq!(rules(&sheet), good(0, 0));
+    assert_eq!(stratum(&sheet, 0), refused(5, 0));
+    assert_eq!(outcomes(&sheet, 0), good(2, 0));
+    assert_eq!(tree_size(&sheet, 1), good(1, 0));
+    assert_eq!(admissible(&sheet, 0, 0, 0, 0), good(1, 0));
+    assert_eq!(admissible(&sheet, 0, 1, 0, 0), good(0, 0));
+    assert_eq!(admissible(&sheet, 0, 3, 0, 0), refused(5, 0));
+    assert_eq!(can_cause(&sheet, 0, 0, 0, 2), good(1, 0));
+    assert_eq!(can_cause(&sheet, 0, 0, 1, 2), good(0, 0));
+    assert_eq!(can_cause(&sheet, 1, 0, 0, 2), refused(5, 0));
+}
+
+#[test]
+fn header_faults() {
+    let empty = sheet(0, [&[]; 10]);
+    assert_eq!(check(&empty), good(0, 0));
+    assert_eq!(check(&[]), refused(1, 0));
+    assert_eq!(check(&empty[..15]), refused(1, 0));
+    for (word, bad) in
+        [(0, 0), (0, 2), (1, 25), (1, -1), (12, 1), (15, 1), (2, 1), (11, -1), (2, i64::MIN), (2, i64::MAX)]
+    {
+        let mut sheet = empty.clone();
+        sheet[word] = bad;
+        assert_eq!(check(&sheet), refused(1, 0), "{word} {bad}");
+    }
+    let mut long = empty.clone();
+    long.push(0);
+    assert_eq!(check(&long), refused(1, 0));
+    let too_many: Vec<&[i64]> = vec![&[0, 0, 1]; 129];
+    assert_eq!(check(&logic(&too_many, &[], &[])), refused(1, 0));
+    assert_eq!(check(&logic(&too_many[1..], &[], &[])), good(0, 0));
+}
+
+#[test]
+fn group_sums() {
+    let change = |changes: &[(usize, usize, i64)]| {
+        let mut sheet = whole();
+        for &(record, word, value) in changes {
+            sheet[16 + 8 * record + word] = value;
+        }
+        check(&sheet)
+    };
+    assert_eq!(change(&[(6, 3, 1)]), refused(2, 0));
+    assert_eq!(change(&[(9, 1, 3)]), refused(2, 0));
+    assert_eq!(change(&[(10, 4, 3)]), refused(2, 0));
+    // The sum is right, but an owner's count is outside 0..1,024.
+    assert_eq!(change(&[(10, 4, -1), (11, 4, 6)]), refused(2, 0));
+    // The sums are right, the counts are not those of the kinds; a bad record before counts for less than 2.
+    assert_eq!(change(&[(10, 4, 3), (11, 4, 2)]), refused(3, 10));
+    assert_eq!(change(&[(0, 0, 3), (10, 4, 4)]), refused(2, 0));
+    assert_eq!(change(&[(6, 2, 1)]), refused(3, 6));
+    assert_eq!(change(&[(11, 3, 1)]), refused(3, 11));
+}
+
+#[test]
+fn fact_records() {
+    let one = |fact: &[i64]| check(&logic(&[fact], &[], &[])).refusal == 0;
+    assert!(one(&[0, 0, 1]));
+    assert!(!one(&[0, 0, 0]));
+    assert!(!one(&[0, 1, 1]));
+    assert!(!one(&[0, 0, 1, 0, 0, 1]));
+    assert!(one(&[1, -M, M, 1, -M]));
+    assert!(!one(&[1, -M - 1, M]));
+    assert!(!one(&[1, -M, M + 1]));
+    assert!(!one(&[1, 2, 1]));
+    assert!(one(&[1, 5, 7]), "without a default the word is 0, also outside min..max");
+    assert!(!one(&[1, 5, 7, 1, 0]));
+    assert!(!one(&[1, 5, 7, 0, 6]));
+    assert!(!one(&[1, 5, 7, 2, 6]));
+    assert!(one(&[2, 0, 255, 1, 255, 127]));
+    assert!(!one(&[2, 0, 256]));
+    assert!(!one(&[2, 0, 1, 0, 0, 128]));
+    assert!(!one(&[2, 0, 1, 0, 0, -1]));
+    assert!(!one(&[2, 1, 1]));
+    assert!(!one(&[3, 0, 1]));
+    assert!(!one(&[0, 0, 1, 0, 0, 0, 1]));
+    assert!(!one(&[0, 0, 1, 0, 0, 0, 0, 1]));
+    let sets = |a, b| check(&logic(&[&[2, 0, 3, 0, 0, a], &[2, 0, 4, 0, 0, b]], &[], &[]));
+    assert_eq!(sets(1, 2), good(0, 0));
+    assert_eq!(sets(1, 1), refused(3, 1));
+}
+
+#[test]
+fn node_records() {
+    let facts: [&[i64]; 4] = [&[0, 0, 1], &[1, -5, 5], &[2, 0, 3, 0, 0, 7], &[2, 0, 3, 0, 0, 8]];
+    let some = |nodes: &[&[i64]]| check(&logic(&facts, nodes, &[])).refusal == 0;
+    for good in [
+        &[&[0i64, M] as &[i64]] as &[&[i64]],
+        &[&[0, -M]],
+        &[&[1, 0]],
+        &[&[2, 255, 127]],
+        &[&[3, 0], &[3, 0], &[7, 0, 0, 1]],
+        &[&[3, 2], &[2, 255, 7], &[7, 1, 1, 0]],
+        &[&[3, 1], &[0, 1], &[7, 5, 0, 1], &[11, 2]],
+        &[&[3, 1], &[6, 0, M / 5]],
+        &[&[0, 0], &[6, 0, M]],
+        &[&[1, 0], &[1, 1], &[10, 1, 0]],
+    ] {
+        assert!(some(good), "{good:?}");
+    }
+    for bad in [
+        &[&[0i64, M + 1] as &[i64]] as &[&[i64]],
+        &[&[0, i64::MIN]],
+        &[&[1, 2]],
+        &[&[1, -1]],
+        &[&[2, 256, 0]],
+        &[&[2, 0, 128]],
+        &[&[3, 4]],
+        &[&[3, -1]],
+        &[&[8, 0]],
+        &[&[12]],
+        &[&[-1]],
+        &[&[0, 0, 1]],
+        &[&[1, 0], &[11, 0, 0, 0, 1]],
+        &[&[1, 0], &[11, 1]],
+        &[&[1, 0], &[9, 0, 0]],
+        &[&[1, 0], &[11, 0], &[11, 0]],
+        &[&[0, 0], &[11, 0]],
+        &[&[1, 0], &[0, 0], &[7, 0, 0, 1]],
+        &[&[3, 2], &[3, 3], &[7, 0, 0, 1]],
+        &[&[3, 0], &[3, 0], &[7, 2, 0, 1]],
+        &[&[3, 2], &[3, 2], &[7, 3, 0, 1]],
+        &[&[3, 1], &[0, 1], &[7, 6, 0, 1]],
+        &[&[3, 1], &[6, 0, M / 5 + 1]],
+        &[&[0, 0], &[6, 0, M + 1]],
+        &[&[0, 0], &[6, 0, -1]],
+        &[&[1, 0], &[6, 0, 1]],
+        &[&[0, -M], &[0, 1], &[5, 0, 1]],
+    ] {
+        assert!(!some(bad), "{bad:?}");
+    }
+}
+
+#[test]
+fn rule_records() {
+    let two =
+        |first: i64, second: i64, cited: i64| check(&logic(&[], &[&[1, 1], &[8, cited]], &[&[first, 0], &[second, 1]]));
+    assert_eq!(two(0, 1, 0), good(0, 0));
+    assert_eq!(two(0, 15, 0), good(0, 0));
+    assert_eq!(two(1, 1, 0), refused(3, 3));
+    assert_eq!(two(0, 1, 1), refused(3, 3));
+    assert_eq!(two(2, 1, 0), refused(3, 3));
+    assert_eq!(two(0, 16, 0), refused(3, 3));
+    assert_eq!(two(-1, 1, 0), refused(3, 2));
+    assert_eq!(two(0, 1, 2), refused(3, 1));
+    let named_twice = logic(&[], &[&[1, 1]], &[&[0, 0], &[0, 0]]);
+    assert_eq!(check(&named_twice), refused(3, 2));
+    assert_eq!(check(&logic(&[], &[&[0, 1]], &[&[0, 0]])), refused(3, 1));
+}
+
+#[test]
+fn every_comparison_range_against_every_pair() {
+    // An operation's precondition is a comparison of two Int facts; S3a tells whether its range includes 1, and
+    // under a not whether it includes 0.
+    let holds = |operator: i64, x: i64, y: i64| match operator {
+        0 => x == y,
+        1 => x != y,
+        2 => x < y,
+        3 => x <= y,
+        4 => x > y,
+        _ => x >= y,
+    };
+    for operator in 0..6 {
+        for code in 0..256i64 {
+            let [a, b, c, d] = [code & 3, code >> 2 & 3, code >> 4 & 3, code >> 6];
+            if a > b || c > d {
+                continue;
+            }
+            let sheet = sheet(
+                1,
+                [
+                    &[&[1, a, b], &[1, c, d]],
+                    &[&[3, 0], &[3, 1], &[7, operator, 0, 1], &[3, 0], &[3, 1], &[7, operator, 3, 4], &[11, 5]],
+                    &[],
+                    &[&[1, 0]],
+                    &[&[0, 0, 0]],
+                    &[&[1, 2, 0, 1, 1], &[1, 6, 1, 1, 1]],
+                    &[&[0, 0, 0, 0], &[0, 0, 0, 0]],
+                    &[],
+                    &[],
+                    &[],
+                ],
+            );
+            let some = |wanted| (a..=b).any(|x| (c..=d).any(|y| holds(operator, x, y) == wanted)) as i64;
+            assert_eq!(admissible(&sheet, 0, 0, 0, 0), good(some(true), 0));
+            assert_eq!(admissible(&sheet, 0, 0, 0, 1), good(some(false), 0));
+        }
+    }
+}
+
+#[test]
+fn effect_records() {
+    let one = |outcomes: i64, effects: &[&[i64]]| check(&desk(&[&[1, 0, 0, effects.len() as i64, outcomes]], effects));
+    let first = 1 + 3 + 48 + 1;
+    assert_eq!(one(1, &[&[0, 0, 1, 0]]), good(0, 0));
+    assert_eq!(one(1, &[&[0, 0, 1, 1]]), refused(3, first));
+    assert_eq!(one(2, &[&[0, 0, 1, 0]]), refused(3, first), "ends too early");
+    assert_eq!(one(2, &[&[0, 0, 1, 0], &[0, 0, 2, 1]]), good(0, 0));
+    assert_eq!(one(2, &[&[0, 0, 1, 0], &[0, 0, 2, 2]]), refused(3, first + 1));
+    assert_eq!(one(3, &[&[0, 0, 1, 0], &[0, 0, 2, 2]]), refused(3, first + 1));
+    assert_eq!(one(2, &[&[0, 0, 1, 0], &[0, 1, 2, 1], &[0, 2, 2, 0]]), refused(3, first + 2));
+    assert_eq!(one(1, &[&[0, 0, 1, 0], &[0, 0, 2, 0]]), refused(3, first + 1), "a pair twice");
+    assert_eq!(one(1, &[&[0, 0, 1, 0], &[0, 1, 2, 0]]), good(0, 0));
+    assert_eq!(one(1, &[&[3, 0, 1, 0]]), refused(3, first));
+    assert_eq!(one(1, &[&[0, 4, 1, 0]]), refused(3, first));
+    assert_eq!(one(1, &[&[0, 0, 1, 0, 1]]), refused(3, first));
+    assert_eq!(one(9, &[&[0, 0, 1, 0]]), refused(3, first - 1));
+    // Masks: not 0, below 2 to the personas.
+    let mask = |mask: i64| check(&desk(&[&[mask, 0, 0, 1, 1]], &[&[0, 0, 1, 0]])).refusal;
+    assert_eq!([0, 1, 7, 8, -1, i64::MIN].map(mask), [3, 0, 0, 3, 3, 3]);
+    // The pair may occur again in another operation, and in another outcome.
+    let two = desk(&[&[1, 0, 0, 1, 1], &[1, 1, 1, 1, 1]], &[&[0, 0, 1, 0], &[0, 0, 1, 0]]);
+    assert_eq!(check(&two), good(0, 0));
+}
+
+#[test]
+fn outcomes_are_chosen_and_applied_at_once() {
+    // Outcome 0 needs entity 0 from 0 or 1, and entity 1 from 2. Outcome 1 needs entity 2 from 3.
+    let sheet = desk(&[&[2, 0, 0, 4, 2]], &[&[0, 0, 1, 0], &[0, 1, 3, 0], &[1, 2, 0, 0], &[2, 3, 2, 1]]);
+    for (before, answer, after) in [
+        ([0, 2, 0], good(0, 0), [1, 0, 0]),
+        ([1, 2, 3], good(0, 0), [3, 0, 3]),
+        ([0, 1, 3], good(1, 0), [0, 1, 2]),
+        ([3, 2, 3], good(1, 0), [3, 2, 2]),
+        ([0, 1, 0], refused(11, 0), [0, 1, 0]),
+        ([0, 4, 0], refused(8, 1), [0, 4, 0]),
+        ([0, 4, -1], refused(8, 1), [0, 4, -1]),
+    ] {
+        let mut states = before;
+        assert_eq!(operate(&sheet, &[], &[], &mut states, 1, 0), answer);
+        assert_eq!(states, after);
+    }
+    let mut states = [0, 2, 0];
+    assert_eq!(operate(&sheet, &[], &[], &mut states, 0, 0), refused(9, 0));
+    assert_eq!(operate(&sheet, &[], &[], &mut states, 3, 0), refused(5, 0));
+    assert_eq!(operate(&sheet, &[], &[], &mut states, 1, 1), refused(5, 0));
+    assert_eq!(operate(&sheet, &[1], &[], &mut states, 3, 1), refused(4, 0));
+    assert_eq!(operate(&sheet, &[], &[], &mut [9, 9, 9], 0, 0), refused(8, 0));
+}
+
+#[test]
+fn faults_of_facts() {
+    let sheet = logic(&[&[1, 2, 5, 1, 4], &[1, 2, 5], &[0, 0, 1, 1, 1]], &[], &[]);
+    let facts = |values: [i64; 3], given: [i64; 3]| {
+        let mut after = values;
+        (assemble(&sheet, &mut after, &given), after)
+    };
+    assert_eq!(facts([9, 5, 9], [0, 1, 0]), (good(0, 0), [4, 5, 1]));
+    assert_eq!(facts([2, 2, 0], [1, 1, 1]), (good(0, 0), [2, 2, 0]));
+    assert_eq!(facts([2, 2, 2], [1, 0, 1]), (refused(7, 1), [2, 2, 2]));
+    assert_eq!(facts([6, 2, 2], [1, 0, 1]), (refused(6, 0), [6, 2, 2]));
+    assert_eq!(facts([9, 5, 0], [0, 1, 2]), (refused(6, 2), [9, 5, 0]));
+    assert_eq!(facts([9, 5, 0], [-1, 0, 2]), (refused(6, 0), [9, 5, 0]));
+}
+
+#[test]
+fn verdicts_by_strata() {
+    // Rule 0: fact 0 > 3. Rule 1: not rule 0. Rule 2: rule 0 or rule 1.
+    let sheet = logic(
+        &[&[1, -9, 9, 1, 5]],
+        &[&[3, 0], &[0, 3], &[7, 4, 0, 1], &[8, 0], &[11, 3], &[8, 0], &[8, 1], &[10, 5, 6]],
+        &[&[0, 2], &[1, 4], &[2, 7]],
+    );
+    assert_eq!(check(&sheet), good(0, 0));
+    for (value, given, expected) in [(0, 0, [1, 0, 1]), (3, 1, [0, 1, 1]), (4, 1, [1, 0, 1])] {
+        let mut out = [9; 3];
+        assert_eq!(verdicts(&sheet, &[value], &[given], &mut out), good(0, 0));
+        assert_eq!(out, expected);
+    }
+    assert_eq!(verdicts(&sheet, &[0], &[0], &mut [0; 2]), refused(4, 0));
+    assert_eq!(tree_size(&sheet, 7), good(3, 0));
+    assert_eq!(tree_size(&sheet, 2), good(3, 0));
+    assert_eq!(tree_size(&sheet, 8), refused(5, 0));
+    assert_eq!(stratum(&sheet, 2), good(2, 0));
+    assert_eq!(rules(&sheet), good(3, 0));
+}
+
+#[test]
+fn paths_and_buffers() {
+    let sheet = whole();
+    assert_eq!(first(&sheet, 0, &mut [0]), refused(4, 0));
+    assert_eq!(first(&sheet, 1, &mut []), refused(5, 0));
+    assert_eq!(next(&sheet, -1, &mut [0]), refused(5, 0));
+    assert_eq!(run(&sheet, &[], &[], &mut [0], 1, &mut []), refused(4, 0));
+    assert_eq!(run(&sheet, &[0], &[0], &mut [0], 1, &mut []), refused(5, 0));
+    for (before, answer, after) in [
+        ([0, 2, 77], good(0, 2), [0, 3, 0]),
+        ([0, 4, 1], good(1, 1), [1, 0, 0]),
+        ([1, 5, 6], refused(13, 0), [1, 5, 6]),
+        ([2, 0, 0], refused(12, 0), [2, 0, 0]),
+        ([0, 1, 0], refused(12, 0), [0, 1, 0]),
+        ([0, 5, 0], refused(12, 0), [0, 5, 0]),
+        ([65535, 0, 0], refused(12, 0), [65535, 0, 0]),
+    ] {
+        let mut buffer = before;
+        assert_eq!(next(&sheet, 0, &mut buffer), answer);
+        assert_eq!(buffer, after);
+    }
+}
+
+#[test]
+fn route_and_step_records() {
+    let change = |record: usize, word: usize, value: i64| {
+        let mut sheet = whole();
+        sheet[16 + 8 * record + word] = value;
+        check(&sheet)
+    };
+    assert_eq!(change(12, 1, 0), refused(3, 12), "its own step");
+    assert_eq!(change(12, 1, 2), refused(3, 12), "no such step");
+    assert_eq!(change(12, 0, 2), refused(3, 12));
+    assert_eq!(change(13, 1, 3), refused(3, 13));
+    assert_eq!(change(13, 1, 2), good(0, 0));
+    assert_eq!(change(14, 0, 0), refused(3, 14), "a step before its owner");
+    assert_eq!(change(10, 2, 1), refused(3, 10), "a branch has no persona");
+    assert_eq!(change(10, 1, 1), refused(3, 10), "named by the operation");
+    assert_eq!(change(11, 2, 1), refused(3, 11));
+    assert_eq!(change(11, 1, 1), refused(3, 11));
+    assert_eq!(change(11, 5, 1), refused(3, 11));
+    assert_eq!(change(9, 2, 1), refused(3, 9));
+    assert_eq!(change(12, 1, 1), good(0, 0));
+}
+
+#[test]
+fn text_lines() {
+    let line = b"0\t1\t-1\t1000000000\t-1000000000\t7\t8\t9\n";
+    let line_words = [0, 1, -1, M, -M, 7, 8, 9];
+    let mut words = [5; 9];
+    assert_eq!(read_text(line, &mut words), good(8, 0));
+    assert_eq!((&words[..8], words[8]), (&line_words[..], 5));
+    assert_eq!(read_text(line, &mut [0; 7]), refused(15, 0));
+    assert_eq!(read_text(b"", &mut []), good(0, 0));
+    let mut text = [b'x'; 40];
+    assert_eq!(write_text(&line_words, &mut text), good(line.len() as i64, 0));
+    assert_eq!(&text[..line.len()], line);
+    assert!(text[line.len()..].iter().all(|&byte| byte == b'x'));
+    assert_eq!(write_text(&line_words, &mut text[..line.len() - 1]), refused(15, 0));
+    assert_eq!(write_text(&[], &mut []), good(0, 0));
+    assert_eq!(write_text(&[0; 7], &mut []), refused(14, 0));
+    assert_eq!(write_text(&[0; 9], &mut []), refused(14, 1));
+    let mut long = [0; 17];
+    long[9] = M + 1;
+    assert_eq!(write_text(&long, &mut []), refused(14, 1));
+    long[9] = i64::MIN;
+    assert_eq!(write_text(&long[..16], &mut []), refused(14, 1));
+}
+
+#[test]
+fn bad_lines() {
+    let good_line = "0\t0\t0\t0\t0\t0\t0\t0\n";
+    for bad in [
+        "\n",
+        "0\t0\t0\t0\t0\t0\t0\t0",
+        "0\t0\t0\t0\t0\t0\t0\n",
+        "0\t0\t0\t0\t0\t0\t0\t0\t0\n",
+        "0\t0\t0\t0\t0\t0\t0\t0\t\n",
+        "0\t0\t0\t0\t0\t0\t0\t0\r\n",
+        "00\t0\t0\t0\t0\t0\t0\t0\n",
+        "01\t0\t0\t0\t0\t0\t0\t0\n",
+        "+1\t0\t0\t0\t0\t0\t0\t0\n",
+        "-0\t0\t0\t0\t0\t0\t0\t0\n",
+        "-\t0\t0\t0\t0\t0\t0\t0\n",
+        "--1\t0\t0\t0\t0\t0\t0\t0\n",
+        "-01\t0\t0\t0\t0\t0\t0\t0\n",
+        "\t0\t0\t0\t0\t0\t0\t0\n",
+        "0 0\t0\t0\t0\t0\t0\t0\t0\n",
+        "0\t\t0\t0\t0\t0\t0\t0\n",
+        "1000000001\t0\t0\t0\t0\t0\t0\t0\n",
+        "-1000000001\t0\t0\t0\t0\t0\t0\t0\n",
+        "18446744073709551616\t0\t0\t0\t0\t0\t0\t0\n",
+        "99999999999999999999999999999999999999999999\t0\t0\t0\t0\t0\t0\t0\n",
+        "0x1\t0\t0\t0\t0\t0\t0\t0\n",
+        " 0\t0\t0\t0\t0\t0\t0\t0\n",
+    ] {
+        for before in 0..3 {
+            let text = good_line.repeat(before) + bad;
+            let mut words = [3; 64];
+            assert_eq!(read_text(text.as_bytes(), &mut words), refused(14, before as i64), "{text:?}");
+            assert_eq!(words, [3; 64]);
+            // A bad line counts for less than missing room, wherever the room ends.
+            let text = text + good_line;
+            assert_eq!(read_text(text.as_bytes(), &mut []).refusal, 14, "{text:?}");
+        }
+    }
+}
+
+#[test]
+fn a_flow_uses_the_changes_of_its_earlier_steps() {
+    // Two steps of one operation 0 -> 1, then 1 -> 2 as its second outcome; the third finds nothing applicable.
+    let step = |persona: i64, first: i64| [0, 0, persona, first, 3];
+    let route = |target: i64| [0, target];
+    let steps = [step(0, 0), step(0, 3), step(1, 6), step(0, 9)];
+    let steps: Vec<&[i64]> = steps.iter().map(|s| s as &[i64]).collect();
+    let routes =
+        [route(1), route(1), route(1), route(2), route(2), route(2), [1, 0], [1, 0], route(3), [1, 0], [1, 1], [1, 2]];
+    let routes: Vec<&[i64]> = routes.iter().map(|r| r as &[i64]).collect();
+    let sheet = sheet(
+        2,
+        [
+            &[],
+            &[&[1, 1]],
+            &[],
+            &[&[3, 0]],
+            &[&[0, 0, 1], &[0, 1, 2]],
+            &[&[1, 0, 0, 2, 2]],
+            &[&[0, 0, 1, 0], &[0, 1, 2, 1]],
+            &[&[0, 4]],
+            &steps,
+            &routes,
+        ],
+    );
+    assert_eq!(check(&sheet), good(0, 0));
+    let mut path = [9; 5];
+    let mut states = [0];
+    assert_eq!(run(&sheet, &[], &[], &mut states, 0, &mut path), good(2, 4));
+    assert_eq!((path, states), ([0, 4, 8, 11, 0], [2]));
+    assert_eq!(depth(&sheet, 0), good(4, 0));
+    assert_eq!(listing(&sheet, 0, 4).len(), 9 * (2 + 3));
+}
