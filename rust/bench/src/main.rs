@@ -1,4 +1,4 @@
-//! `bench [MILLISECONDS]`: each call on the largest sheet, an eighth of it, and 01's sheet.
+//! `bench [MILLISECONDS]`: each call on the largest sheet, an eighth of it, the escrow example, and 01's sheet.
 //!
 //! At last runs that are hard where a precondition is worked out again for each step.
 //!
@@ -56,7 +56,8 @@ fn main() {
     let milliseconds = env::args().nth(1).and_then(|word| word.parse().ok()).unwrap_or(300);
     let time = Duration::from_millis(milliseconds);
     let sheets = [(8, "Largest sheet"), (1, "An eighth")].map(|(eighths, name)| (name, Desk::random(eighths)));
-    let sheets = sheets.into_iter().chain([("01's sheet", Desk::of(&example_sheet(), 1))]);
+    let examples = [("The escrow example", escrow()), ("01's sheet", example::sheet())];
+    let sheets = sheets.into_iter().chain(examples.map(|(name, words)| (name, Desk::of(&as_tables(&words), 1))));
 
     let mut table: Vec<Timed> = vec![];
     for (name, desk) in sheets {
@@ -142,9 +143,17 @@ fn hard_sheet(steps: i64, nodes: i64) -> Sheet {
     sheet
 }
 
-/// 01's sheet as tables.
-fn example_sheet() -> Sheet {
-    let words = example::sheet();
+/// The words of examples/escrow.txt.
+fn escrow() -> Vec<i64> {
+    let text = include_bytes!("../../../examples/escrow.txt");
+    let mut words = vec![0; text.len() / 2];
+    let count = reference::read_text(text, &mut words).value as usize;
+    words.truncate(count);
+    words
+}
+
+/// A sheet's words as tables.
+fn as_tables(words: &[i64]) -> Sheet {
     let mut sheet = Sheet { personas: words[1] as usize, tables: Default::default() };
     let mut records = words[16..].chunks_exact(8).map(|record| record.try_into().unwrap());
     for kind in 1..11 {
