@@ -1,7 +1,7 @@
 -- An attempt's answer and the states afterwards, case by case.
 -- Assumes nothing.
-use mathlib.Core.Path.{_≡_, refl, sym, subst, _∙_}
-use mathlib.Core.Bool.{Bool, true, false, not}
+use mathlib.Core.Path.{_≡_, refl, sym, ap, subst, _∙_}
+use mathlib.Core.Bool.{Bool, true, false, not, _&&_}
 use mathlib.Core.List.{List}
 use mathlib.Core.Logic.{_⊎_, inl, inr}
 use Prim.Native.Nat.{ℕ, _<_}
@@ -25,7 +25,26 @@ use Rattle.operation.specs.States.{StatesIn}
 use Rattle.operation.specs.Outcomes.{chosen}
 use Rattle.operation.specs.Changes.{applied, performed}
 use Rattle.operation.proofs.Guarantees.{chosen-first, performed-by, performed-not, applied-in}
-use Rattle.attempt.specs.Attempts.{precondition, Attemptable, attempted, statesAfter, attemptedStates}
+use Rattle.attempt.specs.Attempts.{precondition, Attemptable, attemptedIf, attempted, statesAfter, attemptedStatesIf, attemptedStates}
+
+-- ---- by t, whether the precondition is true
+
+module _ (s : List ℤ) (h : Header) (t : Bool) (states : List ℤ) (p o : ℕ) where
+  if-barred : allowed s h o p ≡ false → attemptedIf s h t states p o ≡ Refused Persona
+  unfolding attemptedIf
+  if-barred a = rw (a, attemptedIf)
+
+  if-untrue : allowed s h o p ≡ true → t ≡ false → attemptedIf s h t states p o ≡ Refused Precondition
+  unfolding attemptedIf
+  if-untrue a e = rw (a, e, attemptedIf)
+
+  if-stuck : allowed s h o p ≡ true → t ≡ true → chosen s h states o ≡ Nothing → attemptedIf s h t states p o ≡ Refused NoOutcome
+  unfolding attemptedIf
+  if-stuck a e c = rw (a, e, c, attemptedIf)
+
+  if-went : allowed s h o p ≡ true → t ≡ true → (j : ℕ) → chosen s h states o ≡ Outcome j → attemptedIf s h t states p o ≡ Is j
+  unfolding attemptedIf
+  if-went a e j c = rw (a, e, c, attemptedIf)
 
 -- how an attempt comes out
 pub data Comes (s : List ℤ) (h : Header) (facts verdicts states : List ℤ) (p o : ℕ) : Count → Type 0 where
@@ -42,10 +61,10 @@ module _ {s : List ℤ} {h : Header} {facts verdicts states : List ℤ} {p o : �
   -- that is the answer
   pub answer-is : (r : Count) → Comes s h facts verdicts states p o r → attempted s h facts verdicts states p o ≡ r
   unfolding attempted
-  answer-is r (barred a) = rw (a, attempted)
-  answer-is r (untrue a t) = rw (a, t, attempted)
-  answer-is r (stuck a t e) = rw (a, t, e, attempted)
-  answer-is r (went a t j e) = rw (a, t, e, attempted)
+  answer-is r (barred a) = if-barred s h (truth s h facts verdicts (precondition s h o)) states p o a
+  answer-is r (untrue a t) = if-untrue s h (truth s h facts verdicts (precondition s h o)) states p o a t
+  answer-is r (stuck a t e) = if-stuck s h (truth s h facts verdicts (precondition s h o)) states p o a t e
+  answer-is r (went a t j e) = if-went s h (truth s h facts verdicts (precondition s h o)) states p o a t j e
 
   -- and one of the four is the case
   pub comes : Comes s h facts verdicts states p o (attempted s h facts verdicts states p o)
@@ -115,29 +134,58 @@ module _ {s : List ℤ} {h : Header} {facts verdicts states : List ℤ} {p o : �
         exists = rw e (operation-ok (w .ready .accepted) o (w .ready .exists) .node);
       }
 
-  -- ---- what the code finds: b is whether the persona is allowed, t whether the precondition is true, x the choice
+-- ---- what the code finds: b is whether the persona is allowed, t whether the precondition is true, x the choice
 
-  refused : (r : Refusal) → Comes s h facts verdicts states p o (Refused r)
-      → (Refused r ≡ attempted s h facts verdicts states p o) × (states ≡ attemptedStates s h facts verdicts states p o)
-  refused r k = let e = answer-is (Refused r) k in (sym e, sym (refused-states s h facts verdicts states p o r e))
+module _ (s : List ℤ) (h : Header) (t : Bool) (states : List ℤ) (p o : ℕ) where
+  refused : (r : Refusal) → attemptedIf s h t states p o ≡ Refused r → (Refused r ≡ attemptedIf s h t states p o) × (states ≡ attemptedStatesIf s h t states p o)
+  unfolding attemptedStatesIf statesAfter
+  refused r e = (sym e, rw e)
 
   module _ {b : Bool} (is-allowed : b ≡ allowed s h o p) where
-    pub at-persona : not b ≡ true → (Refused Persona ≡ attempted s h facts verdicts states p o) × (states ≡ attemptedStates s h facts verdicts states p o)
-    at-persona q = refused Persona (barred (sym is-allowed ∙ not-true b q))
+    pub at-persona : not b ≡ true → (Refused Persona ≡ attemptedIf s h t states p o) × (states ≡ attemptedStatesIf s h t states p o)
+    at-persona q = refused Persona (if-barred s h t states p o (sym is-allowed ∙ not-true b q))
 
-    module _ {t : Bool} {n : ℕ} (q : not b ≡ false) (is-node : n ≡ precondition s h o) (is-truth : t ≡ truth s h facts verdicts n) where
-      pub at-precondition : not t ≡ true → (Refused Precondition ≡ attempted s h facts verdicts states p o) × (states ≡ attemptedStates s h facts verdicts states p o)
-      at-precondition u = refused Precondition (untrue (sym is-allowed ∙ not-false b q) (rw is-node at (sym is-truth ∙ not-true t u)))
+    module _ (q : not b ≡ false) where
+      yes-allowed : allowed s h o p ≡ true
+      yes-allowed = sym is-allowed ∙ not-false b q
+
+      pub at-precondition : not t ≡ true → (Refused Precondition ≡ attemptedIf s h t states p o) × (states ≡ attemptedStatesIf s h t states p o)
+      at-precondition u = refused Precondition (if-untrue s h t states p o yes-allowed (not-true t u))
 
       module _ {x : Choice} {end : List ℤ} (u : not t ≡ false) (is-chosen : x ≡ chosen s h states o) (is-performed : end ≡ performed s h states o) where
-        pub at-outcome : (j : ℕ) → x ≡ Outcome j → (Is j ≡ attempted s h facts verdicts states p o) × (end ≡ attemptedStates s h facts verdicts states p o)
+        pub at-outcome : (j : ℕ) → x ≡ Outcome j → (Is j ≡ attemptedIf s h t states p o) × (end ≡ attemptedStatesIf s h t states p o)
+        unfolding attemptedStatesIf statesAfter
         at-outcome j z =
             let c = sym is-chosen ∙ z in
-            let e = answer-is (Is j) (went (sym is-allowed ∙ not-false b q) (rw is-node at (sym is-truth ∙ not-false t u)) j c) in
-            (sym e, is-performed ∙ performed-by s h states o j c ∙ sym (outcome-states s h facts verdicts states p o j e))
+            let e = if-went s h t states p o yes-allowed (not-false t u) j c in
+            (sym e, rw e (is-performed ∙ performed-by s h states o j c))
 
-        pub at-nothing : x ≡ Nothing → (Refused NoOutcome ≡ attempted s h facts verdicts states p o) × (end ≡ attemptedStates s h facts verdicts states p o)
+        pub at-nothing : x ≡ Nothing → (Refused NoOutcome ≡ attemptedIf s h t states p o) × (end ≡ attemptedStatesIf s h t states p o)
+        unfolding attemptedStatesIf statesAfter
         at-nothing z =
             let c = sym is-chosen ∙ z in
-            let e = answer-is (Refused NoOutcome) (stuck (sym is-allowed ∙ not-false b q) (rw is-node at (sym is-truth ∙ not-false t u)) c) in
-            (sym e, is-performed ∙ performed-not s h states o c ∙ sym (refused-states s h facts verdicts states p o NoOutcome e))
+            let e = if-stuck s h t states p o yes-allowed (not-false t u) c in
+            (sym e, rw e (is-performed ∙ performed-not s h states o c))
+
+-- an attempt with t is the attempt over facts and verdicts; the precondition matters only where the persona is allowed
+module _ (s : List ℤ) (h : Header) (facts verdicts states : List ℤ) (p o : ℕ) {r : Count} {end : List ℤ} {t : Bool}
+    (is-answer : r ≡ attemptedIf s h t states p o) (is-end : end ≡ attemptedStatesIf s h t states p o) where
+  pub attempt-admits : t ≡ (allowed s h o p && truth s h facts verdicts (precondition s h o))
+      → (r ≡ attempted s h facts verdicts states p o) × (end ≡ attemptedStates s h facts verdicts states p o)
+  unfolding attempted attemptedStates attemptedStatesIf
+  attempt-admits e = go (bool-cases (allowed s h o p))
+    where
+      same : (allowed s h o p ≡ true) ⊎ (allowed s h o p ≡ false) → attemptedIf s h t states p o ≡ attempted s h facts verdicts states p o
+      same (inl a) = let k : t ≡ truth s h facts verdicts (precondition s h o) = rw a at e in rw k
+      same (inr a) = if-barred s h t states p o a ∙ sym (if-barred s h (truth s h facts verdicts (precondition s h o)) states p o a)
+
+      go : (allowed s h o p ≡ true) ⊎ (allowed s h o p ≡ false) → (r ≡ attempted s h facts verdicts states p o) × (end ≡ attemptedStates s h facts verdicts states p o)
+      go a = (is-answer ∙ same a, is-end ∙ ap (statesAfter s h states o) (same a))
+
+-- b is whether the persona is allowed, r whether the precondition is true
+module _ {b a : Bool} (t : Bool) (is-allowed : b ≡ a) where
+  pub not-admitted : not b ≡ true → false ≡ (a && t)
+  not-admitted q = rw (sym is-allowed ∙ not-true b q)
+
+  pub admitted : {r : Bool} → not b ≡ false → r ≡ t → r ≡ (a && t)
+  admitted q e = rw (sym is-allowed ∙ not-false b q) e

@@ -1,7 +1,11 @@
 // One operation by a persona, over fixed facts and verdicts: refusals 9, 10 and 11, or its outcome and the states afterwards.
 ghost use mathlib.Core.Path.{_≡_};
+ghost use mathlib.Core.Bool.{_&&_};
 ghost use Rattle.records.specs.Accepted.{Accepted};
-ghost use Rattle.attempt.specs.Attempts.{precondition, Attemptable, attempted, attemptedStates};
+ghost use Rattle.operation.specs.Mask.{allowed};
+ghost use Rattle.predicate.specs.Values.{truth, Evaluable};
+ghost use Rattle.operation.specs.Ready.{Ready};
+ghost use Rattle.attempt.specs.Attempts.{precondition, Attemptable, attempted, attemptedIf, attemptedStates, attemptedStatesIf};
 ghost use Prim.Native.Nat.{_<_};
 use answer::Count;
 use answer::Refusal;
@@ -24,7 +28,61 @@ fn precondition(s: &[i64], h: Header, o: Operation) -> Node
     Node(number(s, h.first_operation() + o.0, 1))
 }
 
-// Persona, then precondition, then states.
+// Whether an operation's precondition is true.
+pub fn precondition_holds(
+    s: &[i64],
+    h: Header,
+    facts: &[i64],
+    verdicts: &[i64],
+    o: Operation,
+) -> bool
+    requires { ⌜ Evaluable (now s) h (now facts) (now verdicts) (precondition (now s) h (o .0)) ⌝ }
+    requires { ⌜ o .0 < h .operations ⌝ }
+    ensures { λ b. ⌜ b ≡ truth (now (s .entry)) h (now (facts .entry)) (now (verdicts .entry)) (precondition (now (s .entry)) h (o .0)) ⌝ }
+{
+    let node = precondition(s, h, o);
+    is_true(s, h, facts, verdicts, node)
+}
+
+// The same, but false where the persona is not allowed: then the precondition is not worked out.
+fn admits(s: &[i64], h: Header, facts: &[i64], verdicts: &[i64], p: Persona, o: Operation) -> bool
+    requires { ⌜ Evaluable (now s) h (now facts) (now verdicts) (precondition (now s) h (o .0)) ⌝ }
+    requires { ⌜ (o .0 < h .operations) × (p .0 < h .personas) ⌝ }
+    ensures { λ b. ⌜ b ≡ (allowed (now (s .entry)) h (o .0) (p .0) && truth (now (s .entry)) h (now (facts .entry)) (now (verdicts .entry)) (precondition (now (s .entry)) h (o .0))) ⌝ }
+{
+    if !allows(s, h, o, p) {
+        return false;
+    }
+    precondition_holds(s, h, facts, verdicts, o)
+}
+
+// Persona, then precondition, then states. `holds` is whether the precondition is true.
+pub fn attempt_known(
+    s: &[i64],
+    h: Header,
+    holds: bool,
+    states: &mut [i64],
+    p: Persona,
+    o: Operation,
+) -> Count
+    requires { ⌜ Ready (now s) h (now states) (o .0) ⌝ }
+    requires { ⌜ p .0 < h .personas ⌝ }
+    ensures { λ r. ⌜ r ≡ attemptedIf (now (s .entry)) h holds (now (states .entry)) (p .0) (o .0) ⌝ }
+    ensures { λ r. ⌜ now (states .exit) ≡ attemptedStatesIf (now (s .entry)) h holds (now (states .entry)) (p .0) (o .0) ⌝ }
+{
+    if !allows(s, h, o, p) {
+        return Count::Refused(Refusal::Persona);
+    }
+    if !holds {
+        return Count::Refused(Refusal::Precondition);
+    }
+    match perform(s, h, states, o) {
+        Choice::Outcome(j) => Count::Is(j),
+        Choice::Nothing => Count::Refused(Refusal::NoOutcome),
+    }
+}
+
+// An attempt over facts and verdicts.
 pub fn attempt(
     s: &[i64],
     h: Header,
@@ -38,15 +96,6 @@ pub fn attempt(
     ensures { λ r. ⌜ r ≡ attempted (now (s .entry)) h (now (facts .entry)) (now (verdicts .entry)) (now (states .entry)) (p .0) (o .0) ⌝ }
     ensures { λ r. ⌜ now (states .exit) ≡ attemptedStates (now (s .entry)) h (now (facts .entry)) (now (verdicts .entry)) (now (states .entry)) (p .0) (o .0) ⌝ }
 {
-    if !allows(s, h, o, p) {
-        return Count::Refused(Refusal::Persona);
-    }
-    let node = precondition(s, h, o);
-    if !is_true(s, h, facts, verdicts, node) {
-        return Count::Refused(Refusal::Precondition);
-    }
-    match perform(s, h, states, o) {
-        Choice::Outcome(j) => Count::Is(j),
-        Choice::Nothing => Count::Refused(Refusal::NoOutcome),
-    }
+    let holds = admits(s, h, facts, verdicts, p, o);
+    attempt_known(s, h, holds, states, p, o)
 }

@@ -28,13 +28,13 @@ use Rattle.operation.specs.Changes.{mover, newState, applied}
 use Rattle.operation.specs.Mask.{allowed}
 use Rattle.operation.specs.Outcomes.{ofOutcome, starts, moves, matched, unblocked, applicable, firstApplicable, chosen}
 use Rattle.operation.specs.States.{stateIn, firstStray, statesFault}
-use Rattle.attempt.specs.Attempts.{attempted, statesAfter, attemptedStates}
+use Rattle.attempt.specs.Attempts.{attemptedIf, attempted, statesAfter, attemptedStates}
 use Rattle.listing.specs.Calls.{begins, headOf, following, laid, firstAnswer, firstBuffer, answerOf, bufferOf, nextAnswer, nextBuffer}
 use Rattle.listing.specs.Depth.{greatest, depth}
 use Rattle.listing.specs.Paths.{firstRouteOf, routesOf, ends, target, lastOf, terminal, onward, inTurn, pathsFrom, paths, path}
 use Rattle.listing.specs.Walkers.{started, taken as taken-listing}
 use Rattle.run.specs.Runs.{answerRoute, branchRoute, routeTaken, statesThen, begun, stepped, runOn, ran, runAnswer, runPath, runStates}
-use Rattle.ladder.specs.Ladder.{firstOf, unless, ladder}
+use Rattle.ladder.specs.Ladder.{firstOf, unless, ladder, opened}
 use Rattle.evaluate.specs.Calls.{assembleAnswer, assembleValues}
 use Rattle.flows.specs.Calls.{pathLent, flowLadder, firstCall, firstLeft, nextCall, nextLeft, runLadder, runCall, runPathLeft, runStatesLeft}
 use Rattle.flows.specs.PublicLists.{publicCall, publicCalls}
@@ -43,9 +43,13 @@ use Rattle.reach.specs.Moves.{leaves}
 use Rattle.reach.specs.Reached.{enters, round, flagged, maskOf, reachable}
 use Rattle.causes.specs.Causes.{effectPasses}
 use Rattle.reports.specs.Reports.{climb, reportOn}
+use Rattle.decimal.specs.Decimal.{digitsIn, digits, sign, decimal, hasText, magnitude, value}
+use Rattle.text.specs.Calls.{before, judged as judged-text}
+use Rattle.text.specs.Lines.{all, join, line, goodRow, rows, rowsOf, textOf, joined, cut, linesOf, numbers, wordsOf, same as same-text, goodLine}
+use Rattle.path_lines.specs.Output.{refusedLine, pathLine, flowLines, flowsLines, sheetLines, textCount, sheetEntrance, wordsEntrance, entrance, written, output}
 use Rattle.cases.specs.Sheets.{whole, sixRoutes, thirdOutcome, sumWith}
-use Rattle.cases.specs.CaseTable.{row, same, wrong, listed, ranFrom, judged, assembledWith, cases}
+use Rattle.cases.specs.CaseTable.{row, same, wrong, listed, ranFrom, judged, assembledWith, cases, wrote}
 
 pub none-wrong : wrong cases ≡ []
-unfolding holds canHold canFail eqZ within bounded num minZ maxZ recordAt unused allBelow anyBelow sumBelow firstFail grown entry goodGroup goodGroups headerOf inLimits goodFrame goodHeader kindOf goodWords comparedSpan rangeFrom goodSpan tablesOf goodIn firstBad checked goodEntity goodChange goodTransition sameChange declared goodBounds goodSet goodDefault agree goodFact goodFlow goodOperationStep goodBranchStep goodStep flowOf stepOf goodRouteOf goodRoute namedByRules namedByOperations namedBySteps goodRoot typeOf rangeStep nodeNames namedByNodes goodChildren goodNode goodMask goodOperation operationOf goodOutcome sameSource goodEffectOf goodEffect isVerdict citesStep goodRule taken-facts assembled factFault firstRefused factsFault exprFrom exprOf one two decides valueFrom valueOf verdictsTo verdictsOf mover newState applied allowed ofOutcome starts moves matched unblocked applicable firstApplicable chosen stateIn firstStray statesFault attempted statesAfter attemptedStates begins headOf following laid firstAnswer firstBuffer answerOf bufferOf nextAnswer nextBuffer greatest depth firstRouteOf routesOf ends target lastOf terminal onward inTurn pathsFrom paths path started taken-listing answerRoute branchRoute routeTaken statesThen begun stepped runOn ran runAnswer runPath runStates firstOf unless ladder assembleAnswer assembleValues pathLent flowLadder firstCall firstLeft nextCall nextLeft runLadder runCall runPathLeft runStatesLeft publicCall publicCalls settled nextOpen leaves enters round flagged maskOf reachable effectPasses climb reportOn whole sixRoutes thirdOutcome sumWith row same wrong listed ranFrom judged assembledWith cases
+unfolding holds canHold canFail eqZ within bounded num minZ maxZ recordAt unused allBelow anyBelow sumBelow firstFail grown entry goodGroup goodGroups headerOf inLimits goodFrame goodHeader kindOf goodWords comparedSpan rangeFrom goodSpan tablesOf goodIn firstBad checked goodEntity goodChange goodTransition sameChange declared goodBounds goodSet goodDefault agree goodFact goodFlow goodOperationStep goodBranchStep goodStep flowOf stepOf goodRouteOf goodRoute namedByRules namedByOperations namedBySteps goodRoot typeOf rangeStep nodeNames namedByNodes goodChildren goodNode goodMask goodOperation operationOf goodOutcome sameSource goodEffectOf goodEffect isVerdict citesStep goodRule taken-facts assembled factFault firstRefused factsFault exprFrom exprOf one two decides valueFrom valueOf verdictsTo verdictsOf mover newState applied allowed ofOutcome starts moves matched unblocked applicable firstApplicable chosen stateIn firstStray statesFault attemptedIf attempted statesAfter attemptedStates begins headOf following laid firstAnswer firstBuffer answerOf bufferOf nextAnswer nextBuffer greatest depth firstRouteOf routesOf ends target lastOf terminal onward inTurn pathsFrom paths path started taken-listing answerRoute branchRoute routeTaken statesThen begun stepped runOn ran runAnswer runPath runStates firstOf unless ladder assembleAnswer assembleValues pathLent flowLadder firstCall firstLeft nextCall nextLeft runLadder runCall runPathLeft runStatesLeft publicCall publicCalls settled nextOpen leaves enters round flagged maskOf reachable effectPasses climb reportOn whole sixRoutes thirdOutcome sumWith row same wrong listed ranFrom judged assembledWith cases opened digitsIn digits sign decimal hasText magnitude value before judged-text all join line goodRow rows rowsOf textOf joined cut linesOf numbers wordsOf same-text goodLine refusedLine pathLine flowLines flowsLines sheetLines textCount sheetEntrance wordsEntrance entrance written output wrote
 none-wrong = refl

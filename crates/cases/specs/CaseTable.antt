@@ -13,6 +13,8 @@ use Rattle.listing.specs.Lists.{Next, First, State}
 use Rattle.evaluate.specs.Calls.{assembleAnswer, assembleValues}
 use Rattle.flows.specs.Calls.{runCall, runPathLeft, runStatesLeft}
 use Rattle.flows.specs.PublicLists.{publicCall, publicCalls}
+use Rattle.text.specs.Lines.{textOf}
+use Rattle.path_lines.specs.Output.{output}
 use Rattle.reports.specs.Reports.{reachableReport, depthReport}
 use Rattle.cases.specs.Sheets.{whole, sixRoutes, thirdOutcome, sumWith}
 
@@ -65,6 +67,10 @@ unfoldable pub assembledWith : ℕ → ℕ → List ℤ
 assembledWith x g =
     row (statusAnswer (assembleAnswer whole (pos x ∷ []) (pos g ∷ []))) (assembleValues whole (pos x ∷ []) (pos g ∷ [])) []
 
+-- what the program writes for a sheet's text
+unfoldable pub wrote : List ℤ → List ℤ
+wrote s = map pos (output (textOf s))
+
 -- ---- the table
 
 unfoldable pub cases : List Case
@@ -74,12 +80,14 @@ cases =
     ∷ record { number = 1; got = listed 2; want = 0 ∷ 0 ∷ 2 ∷ 2 ∷ 0 ∷ 4 ∷ [] }
     ∷ record { number = 1; got = listed 3; want = 0 ∷ 0 ∷ 1 ∷ 1 ∷ 1 ∷ 0 ∷ [] }
     ∷ record { number = 1; got = listed 4; want = 13 ∷ 0 ∷ 0 ∷ 0 ∷ 1 ∷ 0 ∷ [] }
+    ∷ record { number = 1; got = wrote whole; want = 48 ∷ 9 ∷ 48 ∷ 9 ∷ 48 ∷ 9 ∷ 50 ∷ 10 ∷ 48 ∷ 9 ∷ 48 ∷ 9 ∷ 48 ∷ 9 ∷ 51 ∷ 10 ∷ 48 ∷ 9 ∷ 50 ∷ 9 ∷ 48 ∷ 9 ∷ 52 ∷ 10 ∷ 48 ∷ 9 ∷ 49 ∷ 9 ∷ 49 ∷ 10 ∷ [] }
     ∷ record { number = 2; got = ranFrom 1 1 0; want = 0 ∷ 0 ∷ 0 ∷ 2 ∷ 1 ∷ 0 ∷ 2 ∷ [] }
     ∷ record { number = 3; got = ranFrom 1 0 0; want = 0 ∷ 0 ∷ 1 ∷ 1 ∷ 0 ∷ 1 ∷ 0 ∷ [] }
     ∷ record { number = 4; got = ranFrom 1 1 1; want = 0 ∷ 0 ∷ 2 ∷ 2 ∷ 1 ∷ 0 ∷ 4 ∷ [] }
     ∷ record { number = 5; got = row (countAnswer (reachableReport whole (pos 0))) [] []; want = 0 ∷ 0 ∷ 7 ∷ 0 ∷ [] }
     ∷ record { number = 6; got = row (countAnswer (depthReport whole (pos 0))) [] []; want = 0 ∷ 0 ∷ 2 ∷ 0 ∷ [] }
     ∷ record { number = 7; got = judged sixRoutes; want = 1 ∷ 0 ∷ 0 ∷ 0 ∷ [] }
+    ∷ record { number = 7; got = wrote sixRoutes; want = 114 ∷ 101 ∷ 102 ∷ 117 ∷ 115 ∷ 101 ∷ 100 ∷ 9 ∷ 49 ∷ 9 ∷ 48 ∷ 10 ∷ [] }
     ∷ record { number = 8; got = judged thirdOutcome; want = 3 ∷ 8 ∷ 0 ∷ 0 ∷ [] }
     ∷ record { number = 9; got = judged (sumWith 0); want = 0 ∷ 0 ∷ 0 ∷ 0 ∷ [] }
     ∷ record { number = 9; got = judged (sumWith 1); want = 3 ∷ 3 ∷ 0 ∷ 0 ∷ [] }

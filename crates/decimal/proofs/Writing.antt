@@ -29,7 +29,7 @@ width-more n h =
     ∙ length-append (digits (n / 10)) ((48 + n % 10) ∷ [])
 
 -- below ten to the power of k and one more, there are no more digits than that
-width-in : (n k : ℕ) → n < 10 ^ suc k → length (digits n) ≤ suc k
+pub width-in : (n k : ℕ) → n < 10 ^ suc k → length (digits n) ≤ suc k
 width-in =
     digit-ind (λ (n : ℕ). (k : ℕ) → n < 10 ^ suc k → length (digits n) ≤ suc k)
     (λ d h k s. omega (arith, width-one d h))

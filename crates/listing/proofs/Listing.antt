@@ -76,11 +76,11 @@ module _ {s : List ℤ} {h : Header} {f : ℕ} {b : List ℕ} (u : Lent s h f b)
   unfolding laid path count
   follows n k = follow-at (paths-ordered s h f) n (replicate (length b - length (path s h f n)) 0) k
 
-  then-next : (n : ℕ) → suc n < count s h f → following (paths s h f) (laid (path s h f n) b) ≡ Then (path s h f (suc n))
+  pub then-next : (n : ℕ) → suc n < count s h f → following (paths s h f) (laid (path s h f n) b) ≡ Then (path s h f (suc n))
   unfolding path count
   then-next n k = follows n (omega arith) ∙ head-drop (paths s h f) (suc n) k
 
-  then-none : (n : ℕ) → suc n ≡ count s h f → following (paths s h f) (laid (path s h f n) b) ≡ Final
+  pub then-none : (n : ℕ) → suc n ≡ count s h f → following (paths s h f) (laid (path s h f n) b) ≡ Final
   unfolding count
   then-none n e = follows n (omega arith) ∙ head-past (paths s h f) (suc n) (omega arith)
 

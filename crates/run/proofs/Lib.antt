@@ -1,3 +1,4 @@
+pub mod Memory
 pub mod StepLaws
 pub mod RunPaths
 pub mod RunLoop

@@ -83,6 +83,9 @@ module _ {s : List ℤ} {h : Header} {facts verdicts states₀ : List ℤ} {f : 
       pub run-room : w .length < length path
       run-room = omega (arith, going-room (trail-going (u .lent) (g .held .trail)) on, g .size)
 
+      pub run-few : w .length < 256
+      run-few = omega (arith, held-room u (g .held) on, flow-ok s h (u .lent .sheet) f (u .lent .flow) .inside, u .lent .sheet .sized .limits .steps)
+
       pub run-route : (r : ℕ) → r ≡ routeTaken s h facts verdicts states (w .step) → r < h .routes
       run-route r k = rw k (omega (arith, route-of run-step run-valid .high, routes-end run-step))
 

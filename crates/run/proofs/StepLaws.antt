@@ -1,7 +1,7 @@
 -- One step of a run: its route is one of the step's, and the states afterwards are among their entities' states again.
 -- Assumes nothing.
 use mathlib.Core.Path.{_≡_, refl, sym, _∙_}
-use mathlib.Core.Bool.{Bool, true, false}
+use mathlib.Core.Bool.{Bool, true, false, _&&_}
 use mathlib.Core.List.{List}
 use mathlib.Core.Logic.{⊎-elim}
 use Prim.Native.Nat.{ℕ, _+_, _-_, _≤_, _<_}
@@ -17,9 +17,11 @@ use Rattle.layout.specs.Tables.{operation, step}
 use Rattle.records.proofs.FlowLaws.{StepKind, performs as is-operation, branches as is-branch, step-is}
 use Rattle.records.proofs.OperationLaws.{operation-ok}
 use Rattle.predicate.specs.Values.{truth, Evaluable}
+use Rattle.operation.specs.Mask.{allowed}
 use Rattle.operation.specs.States.{StatesIn}
-use Rattle.attempt.specs.Attempts.{Attemptable, attempted, attemptedStates}
-use Rattle.attempt.proofs.AttemptLaws.{refused-states, outcome-below, attempted-in}
+use Rattle.operation.specs.Ready.{Ready}
+use Rattle.attempt.specs.Attempts.{precondition, Attemptable, attemptedIf, attempted, attemptedStatesIf, attemptedStates}
+use Rattle.attempt.proofs.AttemptLaws.{refused-states, outcome-below, attempted-in, evaluable as condition, attempt-admits}
 use Rattle.listing.specs.Paths.{firstRouteOf, routesOf, RouteOf}
 use Rattle.listing.proofs.Ways.{step-ends}
 use Rattle.run.specs.Runs.{performs, operationAt, personaAt, nodeAt, answerRoute, branchRoute, routeTaken, statesThen, Steppable}
@@ -142,32 +144,45 @@ module _ {s : List ℤ} {h : Header} {facts verdicts : List ℤ} {i first n : �
   unfolding branchRoute
   on-false e = rw (q, rw is-node at (sym is-truth ∙ e))
 
--- an operation step: x is what the attempt of operation o by persona p comes to, and end the states that it leaves
+-- an operation step: t is whether persona p is allowed and the precondition of operation o true, x what the attempt comes to by that, and end
+-- the states that it leaves
 module _ {s : List ℤ} {h : Header} {facts verdicts states : List ℤ} {i first p o : ℕ} (w : Steppable s h facts verdicts i) (v : StatesIn s h states)
     (e : performs s h i ≡ true) (q : first ≡ firstRouteOf s h i) (of-step : o ≡ operationAt s h i) (by-persona : p ≡ personaAt s h i) where
-  pub asked : Attemptable s h facts verdicts states p o
+  asked : Attemptable s h facts verdicts states p o
   asked = rw (of-step, by-persona) (attemptable w v e)
 
-  module _ {x : Count} (is-answer : x ≡ attempted s h facts verdicts states p o) where
+  pub askable : Evaluable s h facts verdicts (precondition s h o) × ((o < h .operations) × (p < h .personas))
+  askable = (condition asked (precondition s h o) refl, (asked .ready .exists, asked .persona))
+
+  pub triable : Ready s h states o × (p < h .personas)
+  triable = (asked .ready, asked .persona)
+
+  module _ {t : Bool} {x : Count} {end : List ℤ} (is-truth : t ≡ (allowed s h o p && truth s h facts verdicts (precondition s h o)))
+      (is-if : x ≡ attemptedIf s h t states p o) (is-left : end ≡ attemptedStatesIf s h t states p o) where
+    tried : (x ≡ attempted s h facts verdicts states p o) × (end ≡ attemptedStates s h facts verdicts states p o)
+    tried = attempt-admits s h facts verdicts states p o is-if is-left is-truth
+
     answered : attempted s h facts verdicts states (personaAt s h i) (operationAt s h i) ≡ x
-    answered = rw (of-step, by-persona) at (sym is-answer)
+    answered = rw (of-step, by-persona) at (sym (tried .0))
+
+    ended : end ≡ attemptedStates s h facts verdicts states (personaAt s h i) (operationAt s h i)
+    ended = rw (of-step, by-persona) at (tried .1)
 
     pub outcome-fits : (j : ℕ) → x ≡ Is j → first + j < h .routes
     unfolding answerRoute
     outcome-fits j z = rw q (omega (arith, answer-of w v e (Is j) (answered ∙ z) .high, routes-end w))
 
-    module _ {end : List ℤ} (is-end : end ≡ attemptedStates s h facts verdicts states p o) where
-      pub by-outcome : (j : ℕ) → x ≡ Is j
-          → (first + j ≡ answerRoute s h i (attempted s h facts verdicts states (personaAt s h i) (operationAt s h i)))
-          × (end ≡ attemptedStates s h facts verdicts states (personaAt s h i) (operationAt s h i))
-      unfolding answerRoute
-      by-outcome j z = (rw (answered ∙ z, q), rw (of-step, by-persona) at is-end)
+    pub by-outcome : (j : ℕ) → x ≡ Is j
+        → (first + j ≡ answerRoute s h i (attempted s h facts verdicts states (personaAt s h i) (operationAt s h i)))
+        × (end ≡ attemptedStates s h facts verdicts states (personaAt s h i) (operationAt s h i))
+    unfolding answerRoute
+    by-outcome j z = (rw (answered ∙ z, q), ended)
 
-      pub by-failure : (r : Refusal) (count : ℕ) → x ≡ Refused r → count ≡ routesOf s h i
-          → (first + count - 1 ≡ answerRoute s h i (attempted s h facts verdicts states (personaAt s h i) (operationAt s h i)))
-          × (end ≡ attemptedStates s h facts verdicts states (personaAt s h i) (operationAt s h i))
-      unfolding answerRoute
-      by-failure r count z k = (rw (answered ∙ z, q, k), rw (of-step, by-persona) at is-end)
+    pub by-failure : (r : Refusal) (count : ℕ) → x ≡ Refused r → count ≡ routesOf s h i
+        → (first + count - 1 ≡ answerRoute s h i (attempted s h facts verdicts states (personaAt s h i) (operationAt s h i)))
+        × (end ≡ attemptedStates s h facts verdicts states (personaAt s h i) (operationAt s h i))
+    unfolding answerRoute
+    by-failure r count z k = (rw (answered ∙ z, q, k), ended)
 
 -- the routes of an operation step are few, and there are two at least
 pub routes-few : {s : List ℤ} {h : Header} {facts verdicts : List ℤ} {i first count : ℕ} → Steppable s h facts verdicts i → performs s h i ≡ true → first ≡ firstRouteOf s h i

@@ -1,17 +1,20 @@
 // A run of a flow, below the ladder of refusals: facts and verdicts are fixed at its start.
 ghost use mathlib.Core.Path.{_≡_};
-ghost use mathlib.Core.Bool.{true, false};
+ghost use mathlib.Core.Bool.{true, false, _&&_};
 ghost use Prim.Native.Nat.{_+_, _<_};
 ghost use Rattle.words.specs.Record.{number};
 ghost use Rattle.layout.specs.Header.{firstStep};
 ghost use Rattle.layout.specs.Sized.{Sized};
-ghost use Rattle.predicate.specs.Values.{truth};
+ghost use Rattle.predicate.specs.Values.{truth, Evaluable};
+ghost use Rattle.operation.specs.Mask.{allowed};
 ghost use Rattle.operation.specs.States.{StatesIn};
-ghost use Rattle.attempt.specs.Attempts.{attempted, attemptedStates};
+ghost use Rattle.attempt.specs.Attempts.{precondition, attempted, attemptedStates};
+ghost use Rattle.run.specs.Memo.{Memo};
 ghost use Rattle.run.specs.Runs.{performs, operationAt, personaAt, nodeAt, answerRoute, branchRoute, routeTaken, statesThen, runAnswer, runPath, runStates, Steppable, Runnable};
 use answer::Count;
 use answer::Walk;
-use attempt::attempt;
+use attempt::attempt_known;
+use attempt::precondition_holds;
 use layout::Flow;
 use layout::Header;
 use layout::Node;
@@ -21,6 +24,7 @@ use listing::Walker;
 use listing::clear;
 use listing::first_route;
 use listing::routes;
+use operation::allows;
 use predicate::is_true;
 use words::number;
 
@@ -33,6 +37,37 @@ fn step_word(s: &[i64], h: Header, step: usize, j: usize) -> usize
     number(s, h.first_step() + step, j)
 }
 
+// Whether the persona is allowed and the operation's precondition is true. Facts and verdicts are fixed for a run, so the precondition is
+// worked out the first time that it is asked for, and remembered.
+fn recall(
+    s: &[i64],
+    h: Header,
+    facts: &[i64],
+    verdicts: &[i64],
+    known: &mut [bool],
+    holds: &mut [bool],
+    p: Persona,
+    o: Operation,
+) -> bool
+    requires { ⌜ Evaluable (now s) h (now facts) (now verdicts) (precondition (now s) h (o .0)) ⌝ }
+    requires { ⌜ (o .0 < h .operations) × (p .0 < h .personas) ⌝ }
+    requires { ⌜ Memo (now s) h (now facts) (now verdicts) (now known) (now holds) ⌝ }
+    ensures { λ b. ⌜ b ≡ (allowed (now (s .entry)) h (o .0) (p .0) && truth (now (s .entry)) h (now (facts .entry)) (now (verdicts .entry)) (precondition (now (s .entry)) h (o .0))) ⌝ }
+    ensures { λ b. ⌜ Memo (now (s .entry)) h (now (facts .entry)) (now (verdicts .entry)) (now (known .exit)) (now (holds .exit)) ⌝ }
+{
+    if !allows(s, h, o, p) {
+        return false;
+    }
+    let i = o.0;
+    if known[i] {
+        return holds[i];
+    }
+    let b = precondition_holds(s, h, facts, verdicts, o);
+    holds[i] = b;
+    known[i] = true;
+    b
+}
+
 // An operation step: the route of its outcome; where it is refused, the failure route, which is the last.
 fn perform_step(
     s: &[i64],
@@ -40,18 +75,23 @@ fn perform_step(
     facts: &[i64],
     verdicts: &[i64],
     states: &mut [i64],
+    known: &mut [bool],
+    holds: &mut [bool],
     step: usize,
 ) -> usize
     requires { ⌜ Steppable (now s) h (now facts) (now verdicts) step ⌝ }
     requires { ⌜ StatesIn (now s) h (now states) × (performs (now s) h step ≡ true) ⌝ }
+    requires { ⌜ Memo (now s) h (now facts) (now verdicts) (now known) (now holds) ⌝ }
     ensures { λ r. ⌜ r ≡ answerRoute (now (s .entry)) h step (attempted (now (s .entry)) h (now (facts .entry)) (now (verdicts .entry)) (now (states .entry)) (personaAt (now (s .entry)) h step) (operationAt (now (s .entry)) h step)) ⌝ }
     ensures { λ r. ⌜ now (states .exit) ≡ attemptedStates (now (s .entry)) h (now (facts .entry)) (now (verdicts .entry)) (now (states .entry)) (personaAt (now (s .entry)) h step) (operationAt (now (s .entry)) h step) ⌝ }
+    ensures { λ r. ⌜ Memo (now (s .entry)) h (now (facts .entry)) (now (verdicts .entry)) (now (known .exit)) (now (holds .exit)) ⌝ }
 {
     let first = first_route(s, h, step);
     let count = routes(s, h, step);
     let o = Operation(step_word(s, h, step, 1));
     let p = Persona(step_word(s, h, step, 2));
-    match attempt(s, h, facts, verdicts, states, p, o) {
+    let b = recall(s, h, facts, verdicts, known, holds, p, o);
+    match attempt_known(s, h, b, states, p, o) {
         Count::Is(j) => first + j,
         Count::Refused(_) => first + count - 1,
     }
@@ -79,15 +119,19 @@ fn advance(
     facts: &[i64],
     verdicts: &[i64],
     states: &mut [i64],
+    known: &mut [bool],
+    holds: &mut [bool],
     step: usize,
 ) -> usize
     requires { ⌜ Steppable (now s) h (now facts) (now verdicts) step ⌝ }
     requires { ⌜ StatesIn (now s) h (now states) ⌝ }
+    requires { ⌜ Memo (now s) h (now facts) (now verdicts) (now known) (now holds) ⌝ }
     ensures { λ r. ⌜ r ≡ routeTaken (now (s .entry)) h (now (facts .entry)) (now (verdicts .entry)) (now (states .entry)) step ⌝ }
     ensures { λ r. ⌜ now (states .exit) ≡ statesThen (now (s .entry)) h (now (facts .entry)) (now (verdicts .entry)) (now (states .entry)) step ⌝ }
+    ensures { λ r. ⌜ Memo (now (s .entry)) h (now (facts .entry)) (now (verdicts .entry)) (now (known .exit)) (now (holds .exit)) ⌝ }
 {
     if step_word(s, h, step, 0) == 0 {
-        perform_step(s, h, facts, verdicts, states, step)
+        perform_step(s, h, facts, verdicts, states, known, holds, step)
     } else {
         branch(s, h, facts, verdicts, step)
     }
@@ -108,10 +152,21 @@ pub fn run(
     ensures { λ r. ⌜ now (path .exit) ≡ runPath (now (s .entry)) h (now (facts .entry)) (now (verdicts .entry)) (now (states .entry)) (flow .0) (now (path .entry)) ⌝ }
     ensures { λ r. ⌜ now (states .exit) ≡ runStates (now (s .entry)) h (now (facts .entry)) (now (verdicts .entry)) (now (states .entry)) (flow .0) ⌝ }
 {
+    let mut known = [false; Header::OPERATIONS];
+    let mut holds = [false; Header::OPERATIONS];
     let mut w = Walker::start(s, h, flow);
     while !w.finished {
         let at = w.length;
-        let route = advance(s, h, facts, verdicts, states, w.step);
+        let route = advance(
+            s,
+            h,
+            facts,
+            verdicts,
+            states,
+            &mut known,
+            &mut holds,
+            w.step,
+        );
         path[at] = route as u16;
         w = w.take(s, h, route);
     }

@@ -103,7 +103,7 @@ filled-take result lent = take-at result (drop (length result) lent) (length res
 
 -- ---- small numbers
 
-before-length : {X : Type 0} (ok : X → Bool) (xs : List X) → before ok xs ≤ length xs
+pub before-length : {X : Type 0} (ok : X → Bool) (xs : List X) → before ok xs ≤ length xs
 unfolding before
 before-length ok [] = omega arith
 before-length ok (x ∷ xs) = go (ok x) (before-length ok xs)

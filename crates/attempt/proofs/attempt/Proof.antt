@@ -1,58 +1,21 @@
--- `attempt::attempt` meets its contract: the first of the four cases that holds. Assumes nothing.
-use Rattle.attempt.proofs.AttemptLaws.{evaluable, at-persona, at-precondition, at-outcome, at-nothing}
+-- `attempt::attempt` meets its contract: the precondition matters only where the persona is allowed. Assumes nothing.
+use Rattle.attempt.proofs.AttemptLaws.{evaluable, attempt-admits}
+use mathlib.Core.Path.{refl}
 use borrow.Author.Needs.{needs}
 use Rattle.attempt.proofs.attempt.Statement.{statement}
 use Rattle.attempt.proofs.attempt.Tie as tie
 
-allows-requires : tie.Need-allows-requires
-allows-requires c κs = search needs
+admits-requires : tie.Need-admits-requires
+admits-requires c κs = (evaluable (c .pre) _ refl, (c .pre .ready .exists, c .pre .persona))
 
-returns : tie.Need-returns
-returns c = at-persona (c .before .before .pre) (c .before .allows .ensures) (c .if1 .taken)
-
-precondition-requires : tie.Need-precondition-requires
-precondition-requires c κs = search needs
-
-is-true-requires : tie.Need-is-true-requires
-is-true-requires c κs = evaluable (c .before .before .before .pre) _ (c .precondition .ensures)
-
-returns-2 : tie.Need-returns-2
-returns-2 c = at-precondition (c .before .before .before .before .before .pre) (c .before .before .before .before .allows .ensures) (c .before .before .before .if1 .left) (c .before .before .precondition .ensures) (c .before .is-true .ensures) (c .if2 .taken)
-
-perform-requires : tie.Need-perform-requires
-perform-requires c κs = c .before .before .before .before .before .before .pre .ready
-
-enum-known-j : tie.Need-enum-known-j
-enum-known-j c = search needs
-
-enum-told : tie.Need-enum-told
-enum-told c = search needs
+attempt-known-requires : tie.Need-attempt-known-requires
+attempt-known-requires c κs = (c .before .before .pre .ready, c .before .before .pre .persona)
 
 same-length : tie.Need-same-length
 same-length c = search needs
 
-returns-3 : tie.Need-returns-3
-returns-3 c = at-outcome (c .before .before .before .before .before .before .before .before .before .before .before .pre) (c .before .before .before .before .before .before .before .before .before .before .allows .ensures) (c .before .before .before .before .before .before .before .before .before .if1 .left) (c .before .before .before .before .before .before .before .before .precondition .ensures) (c .before .before .before .before .before .before .before .is-true .ensures) (c .before .before .before .before .before .before .if2 .left) (c .before .before .before .before .perform .ensures .0) (c .before .before .before .before .perform .ensures .1) _ (c .before .j .given .1)
-
-same-length-2 : tie.Need-same-length-2
-same-length-2 c = search needs
-
-returns-4 : tie.Need-returns-4
-returns-4 c = at-nothing (c .before .before .before .before .before .before .before .before .before .before .pre) (c .before .before .before .before .before .before .before .before .before .allows .ensures) (c .before .before .before .before .before .before .before .before .if1 .left) (c .before .before .before .before .before .before .before .precondition .ensures) (c .before .before .before .before .before .before .is-true .ensures) (c .before .before .before .before .before .if2 .left) (c .before .before .before .perform .ensures .0) (c .before .before .before .perform .ensures .1) (c .enum-told .given .1)
+returns : tie.Need-returns
+returns c = attempt-admits _ _ _ _ _ _ _ (c .before .attempt-known .ensures .0) (c .before .attempt-known .ensures .1) (c .before .before .before .admits .ensures)
 
 pub attempt-spec : {M : Type 1} → statement M
-attempt-spec =
-    tie.close
-    (tie.spec
-    allows-requires
-    returns
-    precondition-requires
-    is-true-requires
-    returns-2
-    perform-requires
-    enum-known-j
-    enum-told
-    same-length
-    returns-3
-    same-length-2
-    returns-4)
+attempt-spec = tie.close (tie.spec admits-requires attempt-known-requires same-length returns)

@@ -12,22 +12,28 @@ step-word-requires c κs = search needs
 
 perform-step-requires : tie.Need-perform-step-requires
 unfolding recordAt
-perform-step-requires c κs = (c .before .before .before .pre .0, (c .before .before .before .pre .1, eq-eqb _ 0 (sym (c .before .before .step-word .ensures) ∙ c .before .if1 .taken)))
+perform-step-requires c κs = (c .before .before .before .before .before .before .before .pre .0, ((c .before .before .before .before .before .before .before .pre .1 .0, eq-eqb _ 0 (sym (c .before .before .before .before .step-word .ensures) ∙ c .before .before .before .if1 .taken)), c .before .before .before .before .before .before .before .pre .1 .1))
 
 branch-requires : tie.Need-branch-requires
 unfolding recordAt
-branch-requires c κs = (c .before .before .pre .0, ne-eqb _ 0 (λ z. c .if1 .left (c .before .step-word .ensures ∙ z)))
+branch-requires c κs = (c .before .before .before .before .pre .0, ne-eqb _ 0 (λ z. c .if1 .left (c .before .step-word .ensures ∙ z)))
 
 same-length : tie.Need-same-length
 same-length c = search needs
 
+same-length-2 : tie.Need-same-length-2
+same-length-2 c = search needs
+
+same-length-3 : tie.Need-same-length-3
+same-length-3 c = search needs
+
 returns : tie.Need-returns
 unfolding recordAt
-returns c = took-operation _ _ _ _ _ _ _ _ (eq-eqb _ 0 (sym (c .before .before .before .before .step-word .ensures) ∙ c .before .before .before .if1 .taken)) (c .before .perform-step .ensures .0) (c .before .perform-step .ensures .1)
+returns c = let k = took-operation _ _ _ _ _ _ _ _ (eq-eqb _ 0 (sym (c .before .before .before .before .before .before .before .before .before .before .step-word .ensures) ∙ c .before .before .before .before .before .before .before .before .before .if1 .taken)) (c .before .before .before .before .before .perform-step .ensures .0) (c .before .before .before .before .before .perform-step .ensures .1 .0) in (k .0, (k .1, c .before .before .before .before .before .perform-step .ensures .1 .1))
 
 returns-2 : tie.Need-returns-2
 unfolding recordAt
-returns-2 c = took-branch _ _ _ _ _ _ _ (ne-eqb _ 0 (λ z. c .before .if1 .left (c .before .before .step-word .ensures ∙ z))) (c .branch .ensures)
+returns-2 c = let k = took-branch _ _ _ _ _ _ _ (ne-eqb _ 0 (λ z. c .before .if1 .left (c .before .before .step-word .ensures ∙ z))) (c .branch .ensures) in (k .0, (k .1, c .before .before .before .before .before .pre .1 .1))
 
 pub advance-spec : {M : Type 1} → statement M
 advance-spec =
@@ -37,5 +43,7 @@ advance-spec =
     perform-step-requires
     branch-requires
     same-length
+    same-length-2
+    same-length-3
     returns
     returns-2)

@@ -1,57 +1,66 @@
 -- `run::run` meets its contract: the rest of the same run is still to come, until it is finished. Assumes nothing.
-use Rattle.run.proofs.RunLoop.{Ongoing, run-none, run-valid, run-step, run-room, run-route, run-more, run-less, run-short, run-done}
+use Rattle.run.specs.Memo.{Memo}
+use Rattle.run.proofs.Memory.{memo-none}
+use Rattle.run.proofs.RunLoop.{Ongoing, run-none, run-valid, run-step, run-room, run-few, run-route, run-more, run-less, run-short, run-done}
 use Rattle.records.specs.Flows.{flowOf}
 use mathlib.Core.Path.{sym, _∙_}
 use Prim.Native.Nat.{_-_}
 use lib.ListN.{length}
 use native.Mathlib.Omega.{arith}
+use borrow.Author.Needs.{needs}
 use Rattle.run.proofs.run.Statement.{statement}
 use Rattle.run.proofs.run.Tie as tie
 
 abbrev Inv-loop : tie.InvT-loop
-Inv-loop s h facts verdicts states₀ path₀ w₀ states path w = Ongoing s h facts verdicts states₀ (flowOf s h (w₀ .step)) path₀ states path w
+Inv-loop s h facts verdicts states₀ path₀ known₀ holds₀ w₀ states path known holds w = Ongoing s h facts verdicts states₀ (flowOf s h (w₀ .step)) path₀ states path w × Memo s h facts verdicts known holds
 
 abbrev μ-loop : tie.MeasureT-loop
-μ-loop s h facts verdicts states₀ path₀ w₀ states path w = length path₀ - w .length
+μ-loop s h facts verdicts states₀ path₀ known₀ holds₀ w₀ states path known holds w = length path₀ - w .length
 
 start-requires : tie.Need-start-requires Inv-loop μ-loop
 start-requires c κs = (c .before .pre .lent .sheet .sized, c .before .pre .lent .flow)
 
 loop-holds : tie.Need-loop-holds Inv-loop μ-loop
-loop-holds c = run-none (c .before .before .pre) (c .start .ensures)
+loop-holds c = (run-none (c .before .before .pre) (c .start .ensures), memo-none _ _ _ _)
+
+slice-aggregate-advance : tie.Need-slice-aggregate-advance Inv-loop μ-loop
+slice-aggregate-advance c = search needs
+
+slice-aggregate-advance-2 : tie.Need-slice-aggregate-advance-2 Inv-loop μ-loop
+slice-aggregate-advance-2 c = search needs
 
 advance-requires : tie.Need-advance-requires Inv-loop μ-loop
-advance-requires c κs = (run-step (c .before .before .before .before .before .before .pre) (c .before .before .before .before .start .ensures) (c .before .before .before .loop .inv) (c .before .if1 .taken), run-valid (c .before .before .before .before .before .before .pre) (c .before .before .before .before .start .ensures) (c .before .before .before .loop .inv))
+advance-requires c κs = (run-step (c .before .before .before .before .before .before .before .before .pre) (c .before .before .before .before .before .before .start .ensures) (c .before .before .before .before .before .loop .inv .0) (c .before .before .before .if1 .taken), (run-valid (c .before .before .before .before .before .before .before .before .pre) (c .before .before .before .before .before .before .start .ensures) (c .before .before .before .before .before .loop .inv .0), c .before .before .before .before .before .loop .inv .1))
 
 cast-path : tie.Need-cast-path Inv-loop μ-loop
-cast-path c = omega (arith, run-route (c .before .before .before .before .before .before .before .before .pre) (c .before .before .before .before .before .before .start .ensures) (c .before .before .before .before .before .loop .inv) (c .before .before .before .if1 .taken) _ (c .before .advance .ensures .0), c .before .before .before .before .before .before .before .before .pre .lent .sheet .sized .limits .routes)
+cast-path c = omega (arith, run-route (c .before .before .before .before .before .before .before .before .before .before .before .before .pre) (c .before .before .before .before .before .before .before .before .before .before .start .ensures) (c .before .before .before .before .before .before .before .before .before .loop .inv .0) (c .before .before .before .before .before .before .before .if1 .taken) _ (c .before .before .before .advance .ensures .0), c .before .before .before .before .before .before .before .before .before .before .before .before .pre .lent .sheet .sized .limits .routes)
 
 mul-path : tie.Need-mul-path Inv-loop μ-loop
-mul-path c = omega (arith, run-room (c .before .before .before .before .before .before .before .before .pre) (c .before .before .before .before .before .before .start .ensures) (c .before .before .before .before .before .loop .inv) (c .before .before .before .if1 .taken), c .before .before .before .before .before .loop .inv .size)
+mul-path c = omega (arith, run-few (c .before .before .before .before .before .before .before .before .before .before .before .before .pre) (c .before .before .before .before .before .before .before .before .before .before .start .ensures) (c .before .before .before .before .before .before .before .before .before .loop .inv .0) (c .before .before .before .before .before .before .before .if1 .taken))
 
 slice-write-path : tie.Need-slice-write-path Inv-loop μ-loop
-slice-write-path c = run-room (c .before .before .before .before .before .before .before .before .pre) (c .before .before .before .before .before .before .start .ensures) (c .before .before .before .before .before .loop .inv) (c .before .before .before .if1 .taken)
+slice-write-path c = run-room (c .before .before .before .before .before .before .before .before .before .before .before .before .pre) (c .before .before .before .before .before .before .before .before .before .before .start .ensures) (c .before .before .before .before .before .before .before .before .before .loop .inv .0) (c .before .before .before .before .before .before .before .if1 .taken)
 
 take-requires : tie.Need-take-requires Inv-loop μ-loop
-take-requires c κs = (c .before .before .before .before .before .before .before .before .pre .lent .sheet .sized, (run-route (c .before .before .before .before .before .before .before .before .pre) (c .before .before .before .before .before .before .start .ensures) (c .before .before .before .before .before .loop .inv) (c .before .before .before .if1 .taken) _ (c .before .advance .ensures .0), omega (arith, run-room (c .before .before .before .before .before .before .before .before .pre) (c .before .before .before .before .before .before .start .ensures) (c .before .before .before .before .before .loop .inv) (c .before .before .before .if1 .taken), c .before .before .before .before .before .loop .inv .size)))
+take-requires c κs = (c .before .before .before .before .before .before .before .before .before .before .before .before .pre .lent .sheet .sized, (run-route (c .before .before .before .before .before .before .before .before .before .before .before .before .pre) (c .before .before .before .before .before .before .before .before .before .before .start .ensures) (c .before .before .before .before .before .before .before .before .before .loop .inv .0) (c .before .before .before .before .before .before .before .if1 .taken) _ (c .before .before .before .advance .ensures .0), omega (arith, run-few (c .before .before .before .before .before .before .before .before .before .before .before .before .pre) (c .before .before .before .before .before .before .before .before .before .before .start .ensures) (c .before .before .before .before .before .before .before .before .before .loop .inv .0) (c .before .before .before .before .before .before .before .if1 .taken))))
 
 loop-less : tie.Need-loop-less Inv-loop μ-loop
-loop-less c = run-less (c .before .before .before .before .before .before .before .before .before .pre) (c .before .before .before .before .before .before .before .start .ensures) (c .before .before .before .before .before .before .loop .inv) (c .before .before .before .before .if1 .taken) (c .before .before .advance .ensures .0) (c .before .before .advance .ensures .1) (c .take .ensures)
+loop-less c = run-less (c .before .before .before .before .before .before .before .before .before .before .before .before .before .pre) (c .before .before .before .before .before .before .before .before .before .before .before .start .ensures) (c .before .before .before .before .before .before .before .before .before .before .loop .inv .0) (c .before .before .before .before .before .before .before .before .if1 .taken) (c .before .before .before .before .advance .ensures .0) (c .before .before .before .before .advance .ensures .1 .0) (c .take .ensures)
 
 loop-again : tie.Need-loop-again Inv-loop μ-loop
-loop-again c = run-more (c .before .before .before .before .before .before .before .before .before .pre) (c .before .before .before .before .before .before .before .start .ensures) (c .before .before .before .before .before .before .loop .inv) (c .before .before .before .before .if1 .taken) (c .before .before .advance .ensures .0) (c .before .before .advance .ensures .1) (c .take .ensures)
+loop-again c = (run-more (c .before .before .before .before .before .before .before .before .before .before .before .before .before .pre) (c .before .before .before .before .before .before .before .before .before .before .before .start .ensures) (c .before .before .before .before .before .before .before .before .before .before .loop .inv .0) (c .before .before .before .before .before .before .before .before .if1 .taken) (c .before .before .before .before .advance .ensures .0) (c .before .before .before .before .advance .ensures .1 .0) (c .take .ensures), c .before .before .before .before .advance .ensures .1 .1)
 
 clear-requires : tie.Need-clear-requires Inv-loop μ-loop
-clear-requires c κs = run-short (c .before .before .before .before .before .before .pre) (c .before .before .before .before .start .ensures) (c .before .before .before .loop .inv)
+clear-requires c κs = run-short (c .before .before .before .before .before .before .pre) (c .before .before .before .before .start .ensures) (c .before .before .before .loop .inv .0)
 
 same-length : tie.Need-same-length Inv-loop μ-loop
-same-length c = run-valid (c .before .before .before .before .before .before .before .before .before .pre) (c .before .before .before .before .before .before .before .start .ensures) (c .before .before .before .before .before .before .loop .inv) .long ∙ sym (c .before .before .before .before .before .before .before .before .before .pre .valid .long)
+same-length c = run-valid (c .before .before .before .before .before .before .before .before .before .pre) (c .before .before .before .before .before .before .before .start .ensures) (c .before .before .before .before .before .before .loop .inv .0) .long ∙ sym (c .before .before .before .before .before .before .before .before .before .pre .valid .long)
 
 same-length-2 : tie.Need-same-length-2 Inv-loop μ-loop
-same-length-2 c = c .before .before .clear .kept .0 ∙ c .before .before .before .before .before .before .loop .inv .size
+same-length-2 c = c .before .before .clear .kept .0 ∙ c .before .before .before .before .before .before .loop .inv .0 .size
 
 returns : tie.Need-returns Inv-loop μ-loop
-returns c = run-done (c .before .before .before .before .before .before .before .before .before .pre) (c .before .before .before .before .before .before .before .start .ensures) (c .before .before .before .before .before .before .loop .inv) (c .before .before .before .before .if1 .left) (c .before .before .clear .ensures)
+returns c = run-done (c .before .before .before .before .before .before .before .before .before .pre) (c .before .before .before .before .before .before .before .start .ensures) (c .before .before .before .before .before .before .loop .inv .0) (c .before .before .before .before .if1 .left) (c .before .before .clear .ensures)
 
 pub run-spec : {M : Type 1} → statement M
 run-spec =
@@ -61,6 +70,8 @@ run-spec =
     μ-loop
     start-requires
     loop-holds
+    slice-aggregate-advance
+    slice-aggregate-advance-2
     advance-requires
     cast-path
     mul-path

@@ -1,0 +1,67 @@
+-- `path_lines::advance` meets its contract: the next path of the flow, or the next flow. Assumes nothing.
+use Rattle.path_lines.proofs.Cursors.{ready-lent, follow-most, follow-next, follow-last}
+use native.Mathlib.Omega.{arith}
+use borrow.Author.Needs.{needs}
+use Rattle.path_lines.proofs.advance.Statement.{statement}
+use Rattle.path_lines.proofs.advance.Tie as tie
+
+add-number : tie.Need-add-number
+add-number c = omega (arith, c .before .before .pre .0 .path (c .before .before .pre .1) .early)
+
+add-enter : tie.Need-add-enter
+add-enter c = search needs
+
+enter-requires : tie.Need-enter-requires
+enter-requires c κs = search needs
+
+same-length : tie.Need-same-length
+same-length c = search needs
+
+returns : tie.Need-returns
+returns c = follow-most (c .before .before .before .before .before .before .before .pre .0) (c .before .before .before .before .before .before .before .pre .1) (c .before .before .before .before .if1 .taken) (c .before .before .enter .ensures)
+
+next-requires : tie.Need-next-requires
+next-requires c κs = ready-lent (c .before .before .before .before .pre .0 .ready) _ (c .before .before .before .before .pre .1)
+
+enum-known-terminal : tie.Need-enum-known-terminal
+enum-known-terminal c = search needs
+
+enum-told : tie.Need-enum-told
+enum-told c = search needs
+
+add-enter-2 : tie.Need-add-enter-2
+add-enter-2 c = search needs
+
+enter-requires-2 : tie.Need-enter-requires-2
+enter-requires-2 c κs = search needs
+
+same-length-2 : tie.Need-same-length-2
+same-length-2 c = c .before .before .before .before .before .next .kept .1 .1 .1 .0
+
+returns-2 : tie.Need-returns-2
+returns-2 c = follow-next (c .before .before .before .before .before .before .before .before .before .before .pre .0) (c .before .before .before .before .before .before .before .before .before .before .pre .1) (c .before .before .before .before .before .next .ensures .0) (c .before .before .before .before .before .before .before .if1 .left) (c .before .terminal .given .1) (c .before .before .before .before .before .next .ensures .1) (c .before .before .before .before .before .next .kept .1 .1 .1 .0)
+
+same-length-3 : tie.Need-same-length-3
+same-length-3 c = search needs
+
+returns-3 : tie.Need-returns-3
+returns-3 c = follow-last (c .before .before .before .before .before .before .before .before .before .before .before .before .before .pre .0) (c .before .before .before .before .before .before .before .before .before .before .before .before .before .pre .1) (c .before .before .before .before .before .before .before .before .next .ensures .0) (c .before .before .before .before .enum-told .given .1) (c .before .before .enter2 .ensures)
+
+pub advance-spec : {M : Type 1} → statement M
+advance-spec =
+    tie.close
+    (tie.spec
+    add-number
+    add-enter
+    enter-requires
+    same-length
+    returns
+    next-requires
+    enum-known-terminal
+    enum-told
+    add-enter-2
+    enter-requires-2
+    same-length-2
+    returns-2
+    same-length-3
+    returns-3)
