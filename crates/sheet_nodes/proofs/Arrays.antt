@@ -1,46 +1,43 @@
 -- The arrays after one node more, and that the scan's tests are the definition's.
 -- Assumes nothing.
 use mathlib.Core.Path.{_≡_, refl, sym, subst, ap, ap₂, _∙_}
-use mathlib.Core.Bool.{Bool, true, false, not, cond, _&&_, _||_}
+use mathlib.Core.Bool.{Bool, true, false, not, _&&_, _||_}
 use mathlib.Core.List.{List}
-use mathlib.Core.Logic.{_⊎_, inl, inr, ⊎-elim}
-use Prim.Native.Nat.{ℕ, zero, suc, _+_, _^_, _≤_, _<_}
+use mathlib.Core.Logic.{_⊎_, ⊎-elim}
+use Prim.Native.Nat.{ℕ, _+_, _≤_, _<_}
 use lib.IntN.{ℤ, pos}
 use lib.Dec.{eqb, ltb}
 use lib.ListN.{length, getD, set, replicate, length-replicate, getD-replicate, length-set, List·getD-eq-default}
 use lib.Seq.{getD-set-same, getD-set-other}
 use native.Mathlib.Omega.{arith}
-use native.Mathlib.Numerals.{add-one}
 use native.Mathlib.Decide.{ℕ-discrete, decLt}
-use borrow.Author.Tests.{lt-ltb, le-ltb, ltb-true}
-use Rattle.tables.specs.Scan.{anyBelow, firstFail}
+use borrow.Author.Tests.{le-ltb}
+use Rattle.tables.specs.Scan.{anyBelow}
 use Rattle.tables.specs.Table.{grown, entry, marked}
-use Rattle.tables.proofs.Bools.{tests, bool-cases, true-false, and-left, and-right, and-true, or-cases, or-assoc}
-use Rattle.tables.proofs.Scans.{any-more, any-zero, extend-one, below-suc}
-use Rattle.tables.proofs.Scanned.{fail-at, fail-none}
+use Rattle.tables.proofs.Bools.{tests, bool-cases, and-left, and-right, or-assoc}
+use Rattle.tables.proofs.Scans.{any-more, any-zero, extend-one}
 use Rattle.tables.proofs.Grown.{length-grown, grown-at}
 use Rattle.tables.proofs.Entries.{stored, marked-flags, length-marked}
-use mir.Syntax.{w64}
-use mir.Val.{toZ, ofZ}
-use lib.Signed.{mag}
-use Rattle.signed.specs.Words.{bounded, num}
-use Rattle.signed.proofs.Fit.{back-of}
+use Rattle.signed.specs.Words.{bounded}
 use Rattle.words.specs.declared.Record.{Record}
 use Rattle.words.specs.Record.{word, recordAt}
 use Rattle.layout.specs.declared.Header.{Header}
 use Rattle.layout.specs.Header.{firstNode}
 use Rattle.layout.specs.Sized.{Sized}
-use Rattle.layout.specs.Tables.{fact, node}
+use Rattle.layout.specs.Tables.{node}
 use Rattle.node.specs.declared.Kind.{Kind}
 use Rattle.node.specs.declared.Kind.the-variants.{IntLiteral, BoolLiteral, EnumLiteral, Fact, Sum, Difference, Product, Comparison, Verdict, And, Or, Not, Unknown}
 use Rattle.node.specs.declared.range.Range.{Range}
 use Rattle.node.specs.Kinds.{kindOf, hasLeft, hasRight, left, right, goodWords}
-use Rattle.node.specs.Types.{goodTypes, typeFrom, factType, Set}
-use Rattle.node.specs.Ranges.{span, rangeFrom, goodSpan, Factor}
+use Rattle.node.specs.Types.{goodTypes, typeFrom}
+use Rattle.node.specs.Ranges.{span, rangeFrom, goodSpan}
 use Rattle.node.proofs.Bounds.{zero-bounded}
+use Rattle.records.specs.Facts.{goodFact}
 use Rattle.records.specs.Nodes.{nodeKind, leftOf, rightOf, typeOf, rangeStep, rangeOf, nodeNames, namedByNodes, goodChildren, goodNode}
-use Rattle.sheet_nodes.specs.Arrays.{factSpan, factCode, topFrom, topStep, fitsTests, Cited, Bounds, Empty, Filled}
-use Rattle.sheet_nodes.proofs.Parts.{factor, set-small, cited, range-fact, type-fact}
+use Rattle.sheet_nodes.specs.Arrays.{factSpan, factCode, topFrom, topStep, fitsTests, Bounds, Empty, Filled}
+use Rattle.sheet_nodes.specs.declared.Entry.{Entry}
+use Rattle.sheet_nodes.specs.Entries.{spanFrom, Found, Ready}
+use Rattle.sheet_nodes.proofs.Parts.{range-fact, type-fact}
 
 -- ---- an array that holds a part p of each entry of a table, and the default past them
 
@@ -151,7 +148,7 @@ module _ (s : List ℤ) (h : Header) (n : ℕ) {lows highs : List ℤ} {types to
       go (yes q) = rw (grown-at (rangeStep s h) zero-span n j q) (good-both (span-good s h j (f .good j q)))
       go (no q) = rw (List·getD-eq-default (grown (rangeStep s h) zero-span n) zero-span {n = j} (rw (length-grown (rangeStep s h) zero-span n) (omega arith))) (zero-bounded, zero-bounded)
 
-  pub bounds : Bounds lows highs
+  bounds : Bounds lows highs
   bounds = record { low = λ j. rw (f .low j) (table-bounded j .0); high = λ j. rw (f .high j) (table-bounded j .1) }
 
   child-is : (j : ℕ) → span (getD lows j (pos 0)) (getD highs j (pos 0)) ≡ table j
@@ -193,15 +190,6 @@ module _ (s : List ℤ) (h : Header) (n : ℕ) {lows highs : List ℤ} {types to
     module _ (p : g ≡ true) where
       words : goodWords h k r (word s (h .facts + n) 1) ≡ true
       words = sym eg ∙ p
-
-      pub factor-ok : Factor k (word s (h .facts + n) 2)
-      factor-ok = factor h k r (word s (h .facts + n) 1) (word s (h .facts + n) 2) (z .limits .rules) (rw er (unfold recordAt in refl)) words
-
-      pub set-ok : Set k r
-      set-ok = set-small h k r (word s (h .facts + n) 1) words
-
-      pub cited-ok : Cited k (r .w1)
-      cited-ok = cited h k r (word s (h .facts + n) 1) (z .limits .rules) words
 
       module _ {x : Range} (ex : x ≡ rangeFrom k (r .w1) (word s (h .facts + n) 1) (factSpan s h (r .w1)) (word s (h .facts + n) 2) (span (getD lows (left k r) (pos 0)) (getD highs (left k r) (pos 0))) (span (getD lows (right k r) (pos 0)) (getD highs (right k r) (pos 0)))) where
         pub range-is : x ≡ rangeOf s h n
@@ -269,13 +257,42 @@ module _ (s : List ℤ) (h : Header) (n : ℕ) {lows highs : List ℤ} {types to
                 top-is : topFrom k (r .w1) (getD tops (left k r) 0) (getD tops (right k r) 0) ≡ entry (topStep s h) 0 n
                 top-is = unfold entry topStep in rw (f .top (left k r), f .top (right k r), kind-is, er)
 
+  -- ---- from the entry that the scan finds
+
+  module _ (z : Sized s h) (l : n < h .nodes) {r : Record} (er : r ≡ recordAt s (h .facts + n)) where
+    pub ready : ((j : ℕ) → j < h .facts → goodFact s j ≡ true) → Ready s h (h .facts + n) r lows highs
+    ready q = record { sized = z; long = omega (arith, l, z .limits, z .long); words = er; bounds = bounds; facts = q }
+
+    module _ {e : Entry} (d : Found s h n (h .facts + n) (kindOf (r .w0)) r lows highs types tops named e) where
+      abbrev ok : Bool
+      ok = goodWords h (kindOf (r .w0)) r (word s (h .facts + n) 1)
+
+      abbrev fit : Bool
+      fit = fitsTests n (kindOf (r .w0)) r (spanFrom (kindOf (r .w0)) r (word s (h .facts + n) 1) (word s (h .facts + n) 2) (factSpan s h (r .w1)) lows highs) types named
+
+      pub stop : e .good ≡ false → goodNode s h n ≡ false
+      stop p = ⊎-elim yes′ no′ (bool-cases ok)
+        where
+          yes′ : ok ≡ true → goodNode s h n ≡ false
+          yes′ u = stop-tests z l er refl refl u refl refl (sym (sym p ∙ d .good ∙ ap (λ (b : Bool). b && fit) u))
+
+          no′ : ok ≡ false → goodNode s h n ≡ false
+          no′ u = stop-words z l er refl refl u
+
+      pub more : e .good ≡ true → {lo hi : ℤ} {v : List Bool} {k : Kind} → lo ≡ e .range .low → hi ≡ e .range .high → k ≡ kindOf (r .w0)
+          → v ≡ marked (hasRight k) (right k r) (marked (hasLeft k) (left k r) named)
+          → Filled s h (n + 1) (set lows n lo) (set highs n hi) (set types n (e .kind)) (set tops n (e .top)) v
+      more p el eh ek ev = again z l er refl refl words refl refl (and-right ok fit both) (el ∙ ap (λ (x : Range). x .low) (d .range words)) (eh ∙ ap (λ (x : Range). x .high) (d .range words)) (d .kind words) (d .top words) (rw ek at ev)
+        where
+          both : (ok && fit) ≡ true
+          both = sym (d .good) ∙ p
+
+          words : ok ≡ true
+          words = and-left ok fit both
+
 pub finish : (s : List ℤ) (h : Header) (n : ℕ) {lows highs : List ℤ} {types tops : List ℕ} {named : List Bool} → Filled s h n lows highs types tops named → n ≤ h .nodes → h .nodes ≤ n
     → Filled s h (h .nodes) lows highs types tops named
 finish s h n {lows} {highs} {types} {tops} {named} f a b = subst (λ (m : ℕ). Filled s h m lows highs types tops named) (omega arith) f
-
--- what the test of a node's words ensures, at the word itself
-pub words-told : (h : Header) (k : Kind) (r : Record) (w v : ℤ) {g : Bool} → g ≡ goodWords h k r (toZ w64 (ofZ w64 w)) → mag w < 2 ^ 63 → w ≡ v → g ≡ goodWords h k r v
-words-told h k r w v e m q = e ∙ ap (goodWords h k r) (back-of w m ∙ q)
 
 -- how long the empty arrays are
 pub record Sizes (lows highs : List ℤ) (types tops : List ℕ) (named : List Bool) : Type 0 where

@@ -1,6 +1,6 @@
 -- `sheet_nodes::check_nodes` meets its contract. Assumes nothing.
 use Rattle.signed.proofs.Fit.{back-of}
-use Rattle.sheet_nodes.proofs.Arrays.{begin, sizes, words-told, bounds, factor-ok, set-ok, cited-ok, stop-words, stop-tests, again, finish}
+use Rattle.sheet_nodes.proofs.Arrays.{begin, sizes, ready, stop, more, finish}
 use Rattle.sheet_nodes.specs.Arrays.{Filled}
 use Rattle.records.specs.Nodes.{goodNode}
 use Rattle.tables.proofs.Scanned.{fail-at, fail-none}
@@ -28,116 +28,83 @@ add-at c = search needs
 record-at-requires : tie.Need-record-at-requires Inv-loop μ-loop
 record-at-requires c κs = search needs
 
-kind-of-requires : tie.Need-kind-of-requires Inv-loop μ-loop
-kind-of-requires c κs = search needs
-
-word-requires : tie.Need-word-requires Inv-loop μ-loop
-word-requires c κs = search needs
-
-good-words-requires : tie.Need-good-words-requires Inv-loop μ-loop
-good-words-requires c κs = search needs
+node-entry-requires : tie.Need-node-entry-requires Inv-loop μ-loop
+node-entry-requires c κs = ready _ _ _ (c .before .before .before .before .before .before .before .before .loop .inv .1) (c .before .before .before .before .before .before .before .before .before .before .before .before .pre .0) (c .before .before .before .before .before .before .before .loop-test .taken) (c .before .before .before .before .before .record-at .ensures) (c .before .before .before .before .before .before .before .before .before .before .before .before .pre .1)
 
 same-length : tie.Need-same-length Inv-loop μ-loop
-same-length c = c .before .before .before .before .before .before .before .loop .inv .1 .low-long ∙ sym (sizes (c .before .before .before .before .before .before .before .before .before .before .before .pre .2) .low)
+same-length c = c .before .before .before .before .before .before .before .before .before .before .before .loop .inv .1 .low-long ∙ sym (sizes (c .before .before .before .before .before .before .before .before .before .before .before .before .before .before .before .pre .2) .low)
 
 same-length-2 : tie.Need-same-length-2 Inv-loop μ-loop
-same-length-2 c = c .before .before .before .before .before .before .before .loop .inv .1 .high-long ∙ sym (sizes (c .before .before .before .before .before .before .before .before .before .before .before .pre .2) .high)
+same-length-2 c = c .before .before .before .before .before .before .before .before .before .before .before .loop .inv .1 .high-long ∙ sym (sizes (c .before .before .before .before .before .before .before .before .before .before .before .before .before .before .before .pre .2) .high)
 
 same-length-3 : tie.Need-same-length-3 Inv-loop μ-loop
-same-length-3 c = c .before .before .before .before .before .before .before .loop .inv .1 .type-long ∙ sym (sizes (c .before .before .before .before .before .before .before .before .before .before .before .pre .2) .type)
+same-length-3 c = c .before .before .before .before .before .before .before .before .before .before .before .loop .inv .1 .type-long ∙ sym (sizes (c .before .before .before .before .before .before .before .before .before .before .before .before .before .before .before .pre .2) .type)
 
 same-length-4 : tie.Need-same-length-4 Inv-loop μ-loop
-same-length-4 c = c .before .before .before .before .before .before .before .loop .inv .1 .top-long ∙ sym (sizes (c .before .before .before .before .before .before .before .before .before .before .before .pre .2) .top)
+same-length-4 c = c .before .before .before .before .before .before .before .before .before .before .before .loop .inv .1 .top-long ∙ sym (sizes (c .before .before .before .before .before .before .before .before .before .before .before .before .before .before .before .pre .2) .top)
 
 same-length-5 : tie.Need-same-length-5 Inv-loop μ-loop
-same-length-5 c = c .before .before .before .before .before .before .before .loop .inv .1 .name-long ∙ sym (sizes (c .before .before .before .before .before .before .before .before .before .before .before .pre .2) .name)
+same-length-5 c = c .before .before .before .before .before .before .before .before .before .before .before .loop .inv .1 .name-long ∙ sym (sizes (c .before .before .before .before .before .before .before .before .before .before .before .before .before .before .before .pre .2) .name)
 
 returns : tie.Need-returns Inv-loop μ-loop
-returns c = (fail-at (goodNode (c .before .before .before .before .before .before .before .before .before .before .before .args .s .now) (c .before .before .before .before .before .before .before .before .before .before .before .args .h)) _ _ (c .before .before .before .before .before .before .loop-test .taken) (c .before .before .before .before .before .before .before .loop .inv .1 .good) (stop-words _ _ _ (c .before .before .before .before .before .before .before .loop .inv .1) (c .before .before .before .before .before .before .before .before .before .before .before .pre .0) (c .before .before .before .before .before .before .loop-test .taken) (c .before .before .before .before .record-at .ensures) (c .before .before .before .kind-of .ensures) (words-told _ _ _ _ _ (c .before .good-words .ensures) (c .before .before .word .ok) (c .before .before .word .ensures)) (not-flip _ (c .if1 .taken))), λ l. absurd (omega arith))
-
-node-range-requires : tie.Need-node-range-requires Inv-loop μ-loop
-node-range-requires c κs = (c .before .before .before .before .before .before .before .before .before .before .before .before .before .pre .0, omega (arith, c .before .before .before .before .before .before .before .before .before .before .before .before .before .pre .0 .limits, c .before .before .before .before .before .before .before .before .before .before .before .before .before .pre .0 .long), factor-ok _ _ _ (c .before .before .before .before .before .before .before .before .before .loop .inv .1) (c .before .before .before .before .before .before .before .before .before .before .before .before .before .pre .0) (c .before .before .before .before .before .before .before .before .loop-test .taken) (c .before .before .before .before .before .before .record-at .ensures) (c .before .before .before .before .before .kind-of .ensures) (words-told _ _ _ _ _ (c .before .before .before .good-words .ensures) (c .before .before .before .before .word .ok) (c .before .before .before .before .word .ensures)) (not-false _ (c .before .before .if1 .left)), bounds _ _ _ (c .before .before .before .before .before .before .before .before .before .loop .inv .1))
-
-fits-requires : tie.Need-fits-requires Inv-loop μ-loop
-fits-requires c κs = search needs
-
-same-length-6 : tie.Need-same-length-6 Inv-loop μ-loop
-same-length-6 c = c .before .before .before .before .before .before .before .before .before .before .before .before .before .before .loop .inv .1 .low-long ∙ sym (sizes (c .before .before .before .before .before .before .before .before .before .before .before .before .before .before .before .before .before .before .pre .2) .low)
-
-same-length-7 : tie.Need-same-length-7 Inv-loop μ-loop
-same-length-7 c = c .before .before .before .before .before .before .before .before .before .before .before .before .before .before .loop .inv .1 .high-long ∙ sym (sizes (c .before .before .before .before .before .before .before .before .before .before .before .before .before .before .before .before .before .before .pre .2) .high)
-
-same-length-8 : tie.Need-same-length-8 Inv-loop μ-loop
-same-length-8 c = c .before .before .before .before .before .before .before .before .before .before .before .before .before .before .loop .inv .1 .type-long ∙ sym (sizes (c .before .before .before .before .before .before .before .before .before .before .before .before .before .before .before .before .before .before .pre .2) .type)
-
-same-length-9 : tie.Need-same-length-9 Inv-loop μ-loop
-same-length-9 c = c .before .before .before .before .before .before .before .before .before .before .before .before .before .before .loop .inv .1 .top-long ∙ sym (sizes (c .before .before .before .before .before .before .before .before .before .before .before .before .before .before .before .before .before .before .pre .2) .top)
-
-same-length-10 : tie.Need-same-length-10 Inv-loop μ-loop
-same-length-10 c = c .before .before .before .before .before .before .before .before .before .before .before .before .before .before .loop .inv .1 .name-long ∙ sym (sizes (c .before .before .before .before .before .before .before .before .before .before .before .before .before .before .before .before .before .before .pre .2) .name)
-
-returns-2 : tie.Need-returns-2 Inv-loop μ-loop
-returns-2 c = (fail-at (goodNode (c .before .before .before .before .before .before .before .before .before .before .before .before .before .before .before .before .before .before .args .s .now) (c .before .before .before .before .before .before .before .before .before .before .before .before .before .before .before .before .before .before .args .h)) _ _ (c .before .before .before .before .before .before .before .before .before .before .before .before .before .loop-test .taken) (c .before .before .before .before .before .before .before .before .before .before .before .before .before .before .loop .inv .1 .good) (stop-tests _ _ _ (c .before .before .before .before .before .before .before .before .before .before .before .before .before .before .loop .inv .1) (c .before .before .before .before .before .before .before .before .before .before .before .before .before .before .before .before .before .before .pre .0) (c .before .before .before .before .before .before .before .before .before .before .before .before .before .loop-test .taken) (c .before .before .before .before .before .before .before .before .before .before .before .record-at .ensures) (c .before .before .before .before .before .before .before .before .before .before .kind-of .ensures) (words-told _ _ _ _ _ (c .before .before .before .before .before .before .before .before .good-words .ensures) (c .before .before .before .before .before .before .before .before .before .word .ok) (c .before .before .before .before .before .before .before .before .before .word .ensures)) (not-false _ (c .before .before .before .before .before .before .before .if1 .left)) (c .before .before .before .before .node-range .ensures) (c .before .fits2 .ensures) (not-flip _ (c .if2 .taken))), λ l. absurd (omega arith))
-
-node-type-requires : tie.Need-node-type-requires Inv-loop μ-loop
-node-type-requires c κs = (c .before .before .before .before .before .before .before .before .before .before .before .before .before .before .before .before .before .before .before .before .pre .0, set-ok _ _ _ (c .before .before .before .before .before .before .before .before .before .before .before .before .before .before .before .before .loop .inv .1) (c .before .before .before .before .before .before .before .before .before .before .before .before .before .before .before .before .before .before .before .before .pre .0) (c .before .before .before .before .before .before .before .before .before .before .before .before .before .before .before .loop-test .taken) (c .before .before .before .before .before .before .before .before .before .before .before .before .before .record-at .ensures) (c .before .before .before .before .before .before .before .before .before .before .before .before .kind-of .ensures) (words-told _ _ _ _ _ (c .before .before .before .before .before .before .before .before .before .before .good-words .ensures) (c .before .before .before .before .before .before .before .before .before .before .before .word .ok) (c .before .before .before .before .before .before .before .before .before .before .before .word .ensures)) (not-false _ (c .before .before .before .before .before .before .before .before .before .if1 .left)), c .before .before .before .before .before .before .before .before .before .before .before .before .before .before .before .before .before .before .before .before .pre .1)
-
-node-top-requires : tie.Need-node-top-requires Inv-loop μ-loop
-node-top-requires c κs = cited-ok _ _ _ (c .before .before .before .before .before .before .before .before .before .before .before .before .before .before .before .before .before .before .loop .inv .1) (c .before .before .before .before .before .before .before .before .before .before .before .before .before .before .before .before .before .before .before .before .before .before .pre .0) (c .before .before .before .before .before .before .before .before .before .before .before .before .before .before .before .before .before .loop-test .taken) (c .before .before .before .before .before .before .before .before .before .before .before .before .before .before .before .record-at .ensures) (c .before .before .before .before .before .before .before .before .before .before .before .before .before .before .kind-of .ensures) (words-told _ _ _ _ _ (c .before .before .before .before .before .before .before .before .before .before .before .before .good-words .ensures) (c .before .before .before .before .before .before .before .before .before .before .before .before .before .word .ok) (c .before .before .before .before .before .before .before .before .before .before .before .before .before .word .ensures)) (not-false _ (c .before .before .before .before .before .before .before .before .before .before .before .if1 .left))
+returns c = (fail-at (goodNode (c .before .before .before .before .before .before .before .before .before .before .before .before .before .before .before .args .s .now) (c .before .before .before .before .before .before .before .before .before .before .before .before .before .before .before .args .h)) _ _ (c .before .before .before .before .before .before .before .before .before .before .loop-test .taken) (c .before .before .before .before .before .before .before .before .before .before .before .loop .inv .1 .good) (stop _ _ _ (c .before .before .before .before .before .before .before .before .before .before .before .loop .inv .1) (c .before .before .before .before .before .before .before .before .before .before .before .before .before .before .before .pre .0) (c .before .before .before .before .before .before .before .before .before .before .loop-test .taken) (c .before .before .before .before .before .before .before .before .record-at .ensures) (c .before .before .node-entry .ensures) (not-flip _ (c .if1 .taken))), λ l. absurd (omega arith))
 
 mul-low : tie.Need-mul-low Inv-loop μ-loop
-mul-low c = omega (arith, c .before .before .before .before .before .before .before .before .before .before .before .before .before .before .before .before .before .before .loop-test .taken, c .before .before .before .before .before .before .before .before .before .before .before .before .before .before .before .before .before .before .before .before .before .before .before .pre .0 .limits .nodes)
+mul-low c = omega (arith, c .before .before .before .before .before .before .before .before .before .before .before .before .before .loop-test .taken, c .before .before .before .before .before .before .before .before .before .before .before .before .before .before .before .before .before .before .pre .0 .limits .nodes)
 
 slice-set-from-low : tie.Need-slice-set-from-low Inv-loop μ-loop
-slice-set-from-low c = omega (arith, c .before .before .before .before .before .before .before .before .before .before .before .before .before .before .before .before .before .before .before .before .before .before .before .pre .0 .limits, c .before .before .before .before .before .before .before .before .before .before .before .before .before .before .before .before .before .before .before .before .before .before .before .pre .0 .long, c .before .before .before .before .before .before .before .before .before .before .before .before .before .before .before .before .before .before .before .loop .inv .1)
+slice-set-from-low c = omega (arith, c .before .before .before .before .before .before .before .before .before .before .before .before .before .loop-test .taken, c .before .before .before .before .before .before .before .before .before .before .before .before .before .before .before .before .before .before .pre .0 .limits .nodes, c .before .before .before .before .before .before .before .before .before .before .before .before .before .before .loop .inv .1 .low-long)
 
 mul-high : tie.Need-mul-high Inv-loop μ-loop
-mul-high c = omega (arith, c .before .before .before .before .before .before .before .before .before .before .before .before .before .before .before .before .before .before .loop-test .taken, c .before .before .before .before .before .before .before .before .before .before .before .before .before .before .before .before .before .before .before .before .before .before .before .pre .0 .limits .nodes)
+mul-high c = omega (arith, c .before .before .before .before .before .before .before .before .before .before .before .before .before .loop-test .taken, c .before .before .before .before .before .before .before .before .before .before .before .before .before .before .before .before .before .before .pre .0 .limits .nodes)
 
 slice-set-from-high : tie.Need-slice-set-from-high Inv-loop μ-loop
-slice-set-from-high c = omega (arith, c .before .before .before .before .before .before .before .before .before .before .before .before .before .before .before .before .before .before .before .before .before .before .before .pre .0 .limits, c .before .before .before .before .before .before .before .before .before .before .before .before .before .before .before .before .before .before .before .before .before .before .before .pre .0 .long, c .before .before .before .before .before .before .before .before .before .before .before .before .before .before .before .before .before .before .before .loop .inv .1)
+slice-set-from-high c = omega (arith, c .before .before .before .before .before .before .before .before .before .before .before .before .before .loop-test .taken, c .before .before .before .before .before .before .before .before .before .before .before .before .before .before .before .before .before .before .pre .0 .limits .nodes, c .before .before .before .before .before .before .before .before .before .before .before .before .before .before .loop .inv .1 .high-long)
 
 mul-types : tie.Need-mul-types Inv-loop μ-loop
-mul-types c = omega (arith, c .before .before .before .before .before .before .before .before .before .before .before .before .before .before .before .before .before .before .loop-test .taken, c .before .before .before .before .before .before .before .before .before .before .before .before .before .before .before .before .before .before .before .before .before .before .before .pre .0 .limits .nodes)
+mul-types c = omega (arith, c .before .before .before .before .before .before .before .before .before .before .before .before .before .loop-test .taken, c .before .before .before .before .before .before .before .before .before .before .before .before .before .before .before .before .before .before .pre .0 .limits .nodes)
 
 slice-write-types : tie.Need-slice-write-types Inv-loop μ-loop
-slice-write-types c = omega (arith, c .before .before .before .before .before .before .before .before .before .before .before .before .before .before .before .before .before .before .before .before .before .before .before .pre .0 .limits, c .before .before .before .before .before .before .before .before .before .before .before .before .before .before .before .before .before .before .before .before .before .before .before .pre .0 .long, c .before .before .before .before .before .before .before .before .before .before .before .before .before .before .before .before .before .before .before .loop .inv .1)
+slice-write-types c = omega (arith, c .before .before .before .before .before .before .before .before .before .before .before .before .before .loop-test .taken, c .before .before .before .before .before .before .before .before .before .before .before .before .before .before .before .before .before .before .pre .0 .limits .nodes, c .before .before .before .before .before .before .before .before .before .before .before .before .before .before .loop .inv .1 .type-long)
 
 mul-tops : tie.Need-mul-tops Inv-loop μ-loop
-mul-tops c = omega (arith, c .before .before .before .before .before .before .before .before .before .before .before .before .before .before .before .before .before .before .loop-test .taken, c .before .before .before .before .before .before .before .before .before .before .before .before .before .before .before .before .before .before .before .before .before .before .before .pre .0 .limits .nodes)
+mul-tops c = omega (arith, c .before .before .before .before .before .before .before .before .before .before .before .before .before .loop-test .taken, c .before .before .before .before .before .before .before .before .before .before .before .before .before .before .before .before .before .before .pre .0 .limits .nodes)
 
 slice-write-tops : tie.Need-slice-write-tops Inv-loop μ-loop
-slice-write-tops c = omega (arith, c .before .before .before .before .before .before .before .before .before .before .before .before .before .before .before .before .before .before .before .before .before .before .before .pre .0 .limits, c .before .before .before .before .before .before .before .before .before .before .before .before .before .before .before .before .before .before .before .before .before .before .before .pre .0 .long, c .before .before .before .before .before .before .before .before .before .before .before .before .before .before .before .before .before .before .before .loop .inv .1)
+slice-write-tops c = omega (arith, c .before .before .before .before .before .before .before .before .before .before .before .before .before .loop-test .taken, c .before .before .before .before .before .before .before .before .before .before .before .before .before .before .before .before .before .before .pre .0 .limits .nodes, c .before .before .before .before .before .before .before .before .before .before .before .before .before .before .loop .inv .1 .top-long)
+
+kind-of-requires : tie.Need-kind-of-requires Inv-loop μ-loop
+kind-of-requires c κs = search needs
 
 name-children-requires : tie.Need-name-children-requires Inv-loop μ-loop
 name-children-requires c κs = search needs
 
 add-n : tie.Need-add-n Inv-loop μ-loop
-add-n c = omega (arith, c .before .before .before .before .before .before .before .before .before .before .before .before .before .before .before .before .before .before .before .before .before .before .loop-test .taken, c .before .before .before .before .before .before .before .before .before .before .before .before .before .before .before .before .before .before .before .before .before .before .before .before .before .before .before .pre .0 .limits .nodes)
+add-n c = omega (arith, c .before .before .before .before .before .before .before .before .before .before .before .before .before .before .before .before .before .before .loop-test .taken, c .before .before .before .before .before .before .before .before .before .before .before .before .before .before .before .before .before .before .before .before .before .before .before .pre .0 .limits .nodes)
 
 loop-less : tie.Need-loop-less Inv-loop μ-loop
-loop-less c = omega (arith, c .before .before .before .before .before .before .before .before .before .before .before .before .before .before .before .before .before .before .before .before .before .before .loop-test .taken)
+loop-less c = omega (arith, c .before .before .before .before .before .before .before .before .before .before .before .before .before .before .before .before .before .before .loop-test .taken)
 
 loop-again : tie.Need-loop-again Inv-loop μ-loop
-loop-again c = (omega (arith, c .before .before .before .before .before .before .before .before .before .before .before .before .before .before .before .before .before .before .before .before .before .before .loop-test .taken), again _ _ _ (c .before .before .before .before .before .before .before .before .before .before .before .before .before .before .before .before .before .before .before .before .before .before .before .loop .inv .1) (c .before .before .before .before .before .before .before .before .before .before .before .before .before .before .before .before .before .before .before .before .before .before .before .before .before .before .before .pre .0) (c .before .before .before .before .before .before .before .before .before .before .before .before .before .before .before .before .before .before .before .before .before .before .loop-test .taken) (c .before .before .before .before .before .before .before .before .before .before .before .before .before .before .before .before .before .before .before .before .record-at .ensures) (c .before .before .before .before .before .before .before .before .before .before .before .before .before .before .before .before .before .before .before .kind-of .ensures) (words-told _ _ _ _ _ (c .before .before .before .before .before .before .before .before .before .before .before .before .before .before .before .before .before .good-words .ensures) (c .before .before .before .before .before .before .before .before .before .before .before .before .before .before .before .before .before .before .word .ok) (c .before .before .before .before .before .before .before .before .before .before .before .before .before .before .before .before .before .before .word .ensures)) (not-false _ (c .before .before .before .before .before .before .before .before .before .before .before .before .before .before .before .before .if1 .left)) (c .before .before .before .before .before .before .before .before .before .before .before .before .before .node-range .ensures) (c .before .before .before .before .before .before .before .before .before .before .fits2 .ensures) (not-false _ (c .before .before .before .before .before .before .before .before .before .if2 .left)) (back-of _ (c .before .before .before .before .before .before .before .before .struct-told .given .0 .1)) (back-of _ (c .before .before .before .before .before .before .before .struct-told2 .given .1 .0 .1)) (c .before .before .before .before .before .before .node-type .ensures) (c .before .before .before .before .node-top .ensures) (c .before .before .name-children .ensures))
+loop-again c = (omega (arith, c .before .before .before .before .before .before .before .before .before .before .before .before .before .before .before .before .before .before .loop-test .taken), more _ _ _ (c .before .before .before .before .before .before .before .before .before .before .before .before .before .before .before .before .before .before .before .loop .inv .1) (c .before .before .before .before .before .before .before .before .before .before .before .before .before .before .before .before .before .before .before .before .before .before .before .pre .0) (c .before .before .before .before .before .before .before .before .before .before .before .before .before .before .before .before .before .before .loop-test .taken) (c .before .before .before .before .before .before .before .before .before .before .before .before .before .before .before .before .record-at .ensures) (c .before .before .before .before .before .before .before .before .before .before .node-entry .ensures) (not-false _ (c .before .before .before .before .before .before .before .before .if1 .left)) (back-of _ (c .before .before .before .before .before .before .struct-told .given .0 .1)) (back-of _ (c .before .before .before .before .before .struct-told2 .given .1 .0 .1)) (c .before .before .before .before .kind-of .ensures) (c .before .before .name-children .ensures))
 
-same-length-11 : tie.Need-same-length-11 Inv-loop μ-loop
-same-length-11 c = c .before .loop .inv .1 .low-long ∙ sym (sizes (c .before .before .before .before .before .pre .2) .low)
+same-length-6 : tie.Need-same-length-6 Inv-loop μ-loop
+same-length-6 c = c .before .loop .inv .1 .low-long ∙ sym (sizes (c .before .before .before .before .before .pre .2) .low)
 
-same-length-12 : tie.Need-same-length-12 Inv-loop μ-loop
-same-length-12 c = c .before .loop .inv .1 .high-long ∙ sym (sizes (c .before .before .before .before .before .pre .2) .high)
+same-length-7 : tie.Need-same-length-7 Inv-loop μ-loop
+same-length-7 c = c .before .loop .inv .1 .high-long ∙ sym (sizes (c .before .before .before .before .before .pre .2) .high)
 
-same-length-13 : tie.Need-same-length-13 Inv-loop μ-loop
-same-length-13 c = c .before .loop .inv .1 .type-long ∙ sym (sizes (c .before .before .before .before .before .pre .2) .type)
+same-length-8 : tie.Need-same-length-8 Inv-loop μ-loop
+same-length-8 c = c .before .loop .inv .1 .type-long ∙ sym (sizes (c .before .before .before .before .before .pre .2) .type)
 
-same-length-14 : tie.Need-same-length-14 Inv-loop μ-loop
-same-length-14 c = c .before .loop .inv .1 .top-long ∙ sym (sizes (c .before .before .before .before .before .pre .2) .top)
+same-length-9 : tie.Need-same-length-9 Inv-loop μ-loop
+same-length-9 c = c .before .loop .inv .1 .top-long ∙ sym (sizes (c .before .before .before .before .before .pre .2) .top)
 
-same-length-15 : tie.Need-same-length-15 Inv-loop μ-loop
-same-length-15 c = c .before .loop .inv .1 .name-long ∙ sym (sizes (c .before .before .before .before .before .pre .2) .name)
+same-length-10 : tie.Need-same-length-10 Inv-loop μ-loop
+same-length-10 c = c .before .loop .inv .1 .name-long ∙ sym (sizes (c .before .before .before .before .before .pre .2) .name)
 
-returns-3 : tie.Need-returns-3 Inv-loop μ-loop
-returns-3 c = (fail-none (goodNode (c .before .before .before .before .before .args .s .now) (c .before .before .before .before .before .args .h)) _ _ (c .before .loop .inv .0) (c .loop-test .left) (c .before .loop .inv .1 .good), λ l. finish _ _ _ (c .before .loop .inv .1) (c .before .loop .inv .0) (c .loop-test .left))
+returns-2 : tie.Need-returns-2 Inv-loop μ-loop
+returns-2 c = (fail-none (goodNode (c .before .before .before .before .before .args .s .now) (c .before .before .before .before .before .args .h)) _ _ (c .before .loop .inv .0) (c .loop-test .left) (c .before .loop .inv .1 .good), λ l. finish _ _ _ (c .before .loop .inv .1) (c .before .loop .inv .0) (c .loop-test .left))
 
 pub check-nodes-spec : {M : Type 1} → statement M
 check-nodes-spec =
@@ -148,25 +115,13 @@ check-nodes-spec =
     loop-holds
     add-at
     record-at-requires
-    kind-of-requires
-    word-requires
-    good-words-requires
+    node-entry-requires
     same-length
     same-length-2
     same-length-3
     same-length-4
     same-length-5
     returns
-    node-range-requires
-    fits-requires
-    same-length-6
-    same-length-7
-    same-length-8
-    same-length-9
-    same-length-10
-    returns-2
-    node-type-requires
-    node-top-requires
     mul-low
     slice-set-from-low
     mul-high
@@ -175,13 +130,14 @@ check-nodes-spec =
     slice-write-types
     mul-tops
     slice-write-tops
+    kind-of-requires
     name-children-requires
     add-n
     loop-less
     loop-again
-    same-length-11
-    same-length-12
-    same-length-13
-    same-length-14
-    same-length-15
-    returns-3)
+    same-length-6
+    same-length-7
+    same-length-8
+    same-length-9
+    same-length-10
+    returns-2)

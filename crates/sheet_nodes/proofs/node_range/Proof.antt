@@ -1,6 +1,6 @@
 -- `sheet_nodes::node_range` meets its contract. Assumes nothing.
 use Rattle.sheet_nodes.proofs.Parts.{child-bounded}
-use Rattle.signed.proofs.Fit.{back-of}
+use Rattle.signed.proofs.Fit.{back}
 use borrow.Author.Needs.{needs}
 use Rattle.sheet_nodes.proofs.node_range.Statement.{statement}
 use Rattle.sheet_nodes.proofs.node_range.Tie as tie
@@ -17,24 +17,11 @@ right-requires c κs = search needs
 child-range-requires-2 : tie.Need-child-range-requires-2
 child-range-requires-2 c κs = search needs
 
-fact-range-requires : tie.Need-fact-range-requires
-fact-range-requires c κs = search needs
-
-word-requires : tie.Need-word-requires
-word-requires c κs = search needs
-
-word-requires-2 : tie.Need-word-requires-2
-word-requires-2 c κs = search needs
-
 range-from-requires : tie.Need-range-from-requires
-range-from-requires c κs = (
-  rw (back-of (c .word2 .result) (c .word2 .ok), c .word2 .ensures) (c .before .before .before .before .before .before .before .pre .2),
-  rw (c .before .before .before .before .before .child-range .ensures) (child-bounded _ _ _ (c .before .before .before .before .before .before .before .pre .3)),
-  rw (c .before .before .before .child-range2 .ensures) (child-bounded _ _ _ (c .before .before .before .before .before .before .before .pre .3)),
-)
+range-from-requires c κs = (rw (back (c .before .before .before .before .fits .w)) (c .before .before .before .before .pre .0), rw (c .before .before .child-range .ensures) (child-bounded _ _ _ (c .before .before .before .before .pre .1)), rw (c .child-range2 .ensures) (child-bounded _ _ _ (c .before .before .before .before .pre .1)))
 
 returns : tie.Need-returns
-returns c = rw (c .range-from .ensures, back-of (c .before .word2 .result) (c .before .word2 .ok), c .before .word2 .ensures, back-of (c .before .before .word .result) (c .before .before .word .ok), c .before .before .word .ensures, c .before .before .before .fact-range .ensures, c .before .before .before .before .child-range2 .ensures, c .before .before .before .before .before .right .ensures, c .before .before .before .before .before .before .child-range .ensures, c .before .before .before .before .before .before .before .left .ensures)
+returns c = rw (c .range-from .ensures, back (c .before .before .before .before .before .fits .v), back (c .before .before .before .before .before .fits .w), c .before .child-range2 .ensures, c .before .before .right .ensures, c .before .before .before .child-range .ensures, c .before .before .before .before .left .ensures)
 
 pub node-range-spec : {M : Type 1} → statement M
 node-range-spec =
@@ -44,8 +31,5 @@ node-range-spec =
     child-range-requires
     right-requires
     child-range-requires-2
-    fact-range-requires
-    word-requires
-    word-requires-2
     range-from-requires
     returns)
