@@ -1,21 +1,21 @@
 // The ladder of refusals 1 to 8, one function for each rung: every public call that takes a sheet climbs it in this order.
 ghost use mathlib.Core.Path.{_≡_};
 ghost use mathlib.Core.Bool.{_&&_};
-ghost use lib.IntN.{pos};
-ghost use lib.ListN.{replicate};
+ghost use lib.ListN.{length};
 ghost use Rattle.layout.specs.Header.{headerOf};
 ghost use Rattle.records.specs.Accept.{checked};
 ghost use Rattle.records.specs.Accepted.{Accepted};
 ghost use Rattle.answer.specs.declared.Status.the-variants.{Done};
-ghost use Rattle.sheet.specs.Parts.{Ranges};
+ghost use Rattle.sheet.specs.Parts.{Blank, Ranges};
 ghost use Rattle.facts.specs.Faults.{factsFault};
 ghost use Rattle.operation.specs.States.{statesFault};
-ghost use Rattle.ladder.specs.Ladder.{firstOf, unless, rungs, opened, exists, matches, factsLent};
+ghost use Rattle.ladder.specs.Ladder.{firstOf, rungs, opened, exists, matches, factsLent};
 use answer::Refusal;
 use answer::Status;
 use facts::judge_facts;
 use layout::Header;
 use operation::judge_states;
+use sheet::check;
 use sheet::check_ranges;
 use signed::num;
 
@@ -27,7 +27,7 @@ pub enum Opened {
 
 // Refusals 1 to 3, on two arrays of zeros: where the sheet is accepted they hold the nodes' value ranges.
 pub fn open_ranges(s: &[i64], lows: &mut [i64], highs: &mut [i64]) -> Opened
-    requires { ⌜ (now lows ≡ replicate 1024 (pos 0)) × (now highs ≡ replicate 1024 (pos 0)) ⌝ }
+    requires { ⌜ Blank (now s) (now lows) × Blank (now s) (now highs) × (length (now highs) ≡ length (now lows)) ⌝ }
     ensures { λ r. ⌜ r ≡ opened (now (s .entry)) ⌝ }
     ensures { λ r. ⌜ (checked (now (s .entry)) ≡ Done → Ranges (now (s .entry)) (headerOf (now (s .entry))) (now (lows .exit)) (now (highs .exit))) ⌝ }
 {
@@ -41,9 +41,10 @@ pub fn open_ranges(s: &[i64], lows: &mut [i64], highs: &mut [i64]) -> Opened
 pub fn open_sheet(s: &[i64]) -> Opened
     ensures { λ r. ⌜ r ≡ opened (now (s .entry)) ⌝ }
 {
-    let mut lows = [0i64; 1024];
-    let mut highs = [0i64; 1024];
-    open_ranges(s, &mut lows, &mut highs)
+    match check(s) {
+        Status::Done => Opened::Sheet(Header::read(s)),
+        Status::Refused(r) => Opened::Refused(r),
+    }
 }
 
 // Whether a number that a caller names is one of n.

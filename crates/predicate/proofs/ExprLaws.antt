@@ -1,6 +1,6 @@
 -- A node's expression by its kind, and what it names on an accepted sheet.
 -- Assumes nothing.
-use mathlib.Core.Path.{_≡_, refl}
+use mathlib.Core.Path.{_≡_, refl, sym, ap}
 use mathlib.Core.Bool.{true}
 use mathlib.Core.List.{List}
 use Prim.Native.Nat.{ℕ, zero, suc, _+_, _<_}
@@ -11,7 +11,7 @@ use Rattle.signed.proofs.Bounds.{true-small}
 use Rattle.words.specs.declared.Record.{Record}
 use Rattle.words.specs.Record.{word, number, recordAt}
 use Rattle.layout.specs.declared.Header.{Header}
-use Rattle.layout.specs.Header.{firstNode}
+use Rattle.layout.specs.Header.{headerOf, firstNode}
 use Rattle.layout.specs.Tables.{node}
 use Rattle.node.specs.declared.Kind.{Kind}
 use Rattle.node.specs.declared.Kind.the-variants.{IntLiteral, BoolLiteral, EnumLiteral, Fact, Sum, Difference, Product, Comparison, Verdict, And, Or, Not, Unknown}
@@ -25,6 +25,7 @@ use Rattle.predicate.specs.declared.Expr.{Expr}
 use Rattle.predicate.specs.declared.Expr.the-variants.{Literal, FactOf, Present, One, Two}
 use Rattle.predicate.specs.Exprs.{exprFrom, exprOf}
 use Rattle.predicate.specs.Values.{SmallFactor}
+use Rattle.predicate.specs.Base.{NodeAt}
 
 -- what holds of each number, where it holds of every smaller one, holds of all
 pub strong : (P : ℕ → Type 0) → ((n : ℕ) → ((j : ℕ) → j < n → P j) → P n) → (n : ℕ) → P n
@@ -73,12 +74,24 @@ module _ (F R : ℕ → Type 0) (U : Unary → Type 0) (C : ℕ → Type 0) (r :
 abbrev pub Named : Header → ℕ → Expr → Type 0
 Named h n e = Each (λ k. k < h .facts) (λ c. c < h .rules) SmallFactor (λ a. a < n) e
 
-module _ (s : List ℤ) (h : Header) (n : ℕ) where
-  -- an expression from a kind that was read: w is the word it was read from, t the kind that it came to
-  pub read-kind : (w : ℕ) (t k : Kind) → w ≡ number s (firstNode h + n) 0 → t ≡ kindOf w → t ≡ k → exprFrom k (node s h n) (word s (firstNode h + n) 1) (word s (firstNode h + n) 2) ≡ exprOf s h n
-  unfolding exprOf recordAt
-  read-kind w t k a b e = rw (← e, b, a)
+-- an expression from a kind that was read: w is the word it was read from, t the kind that it came to
+pub read-kind : {s : List ℤ} {base n w : ℕ} {t k : Kind} → NodeAt s base n → w ≡ number s (base + n) 0 → t ≡ kindOf w → t ≡ k → exprFrom k (recordAt s (base + n)) (word s (base + n) 1) (word s (base + n) 2) ≡ exprOf s (headerOf s) n
+unfolding exprOf recordAt
+read-kind v a b e = rw (← e, b, a, v .first)
 
+-- the kinds below 3 are literals, and kind 3 is a fact
+pub read-literal : {s : List ℤ} {base n : ℕ} (w : ℕ) → NodeAt s base n → w ≡ number s (base + n) 0 → w < 3 → exprOf s (headerOf s) n ≡ Literal (word s (base + n) 1)
+unfolding exprFrom kindOf
+read-literal zero v a l = sym (read-kind {k = IntLiteral} v a refl refl)
+read-literal (suc zero) v a l = sym (read-kind {k = BoolLiteral} v a refl refl)
+read-literal (suc (suc zero)) v a l = sym (read-kind {k = EnumLiteral} v a refl refl)
+read-literal (suc (suc (suc w))) v a l = absurd (omega arith)
+
+pub read-fact : {s : List ℤ} {base n w : ℕ} → NodeAt s base n → w ≡ number s (base + n) 0 → w ≡ 3 → exprOf s (headerOf s) n ≡ FactOf (number s (base + n) 1)
+unfolding exprFrom recordAt kindOf
+read-fact v a e = sym (read-kind {k = Fact} v a refl (ap kindOf e))
+
+module _ (s : List ℤ) (h : Header) (n : ℕ) where
   pub named : Accepted s h → n < h .nodes → Named h n (exprOf s h n)
   unfolding exprOf
   named a l =

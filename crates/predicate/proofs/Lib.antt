@@ -1,3 +1,4 @@
+pub mod BaseLaws
 pub mod ExprLaws
 pub mod Truth
 pub mod KindRange

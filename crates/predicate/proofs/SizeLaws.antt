@@ -1,7 +1,7 @@
 -- The size of the tree under a node. Each node is named at most once, so the trees of the nodes that no node names yet are apart, and together
 -- they are no larger than the nodes so far: the tree under node n has at most n + 1 nodes.
 -- Assumes nothing.
-use mathlib.Core.Path.{_≡_, refl, ap, _∙_}
+use mathlib.Core.Path.{_≡_, refl, sym, ap, _∙_}
 use mathlib.Core.Bool.{Bool, true, false, _&&_, _||_, cond}
 use mathlib.Core.List.{List}
 use mathlib.Core.Logic.{_⊎_, inl, inr}
@@ -19,7 +19,7 @@ use Rattle.tables.proofs.Grown.{grown-at}
 use Rattle.words.specs.declared.Record.{Record}
 use Rattle.words.specs.Record.{word}
 use Rattle.layout.specs.declared.Header.{Header}
-use Rattle.layout.specs.Header.{firstNode}
+use Rattle.layout.specs.Header.{headerOf, firstNode}
 use Rattle.layout.specs.Tables.{node}
 use Rattle.node.specs.declared.Kind.{Kind}
 use Rattle.node.specs.declared.Kind.the-variants.{IntLiteral, BoolLiteral, EnumLiteral, Fact, Sum, Difference, Product, Comparison, Verdict, And, Or, Not, Unknown}
@@ -32,6 +32,7 @@ use Rattle.predicate.specs.declared.Expr.{Expr}
 use Rattle.predicate.specs.declared.Expr.the-variants.{Literal, FactOf, Present, One, Two}
 use Rattle.predicate.specs.Exprs.{exprFrom, exprOf}
 use Rattle.predicate.specs.Values.{SmallFactor}
+use Rattle.predicate.specs.Base.{NodeAt}
 use Rattle.predicate.specs.Sizes.{sizeFrom, sizeStep, treeSize}
 use Rattle.predicate.proofs.ExprLaws.{Each, named-as}
 
@@ -178,7 +179,7 @@ module _ (s : List ℤ) (h : Header) where
     size-small n l = omega (arith, grows n l, apart-small n (omega arith))
 
     -- by the node's expression
-    pub size-as : (n : ℕ) → n < h .nodes → (e : Expr) → exprOf s h n ≡ e → size n ≡ sizeFrom size e
+    size-as : (n : ℕ) → n < h .nodes → (e : Expr) → exprOf s h n ≡ e → size n ≡ sizeFrom size e
     size-as n l e q =
         size-is n
         ∙ rw q
@@ -186,12 +187,26 @@ module _ (s : List ℤ) (h : Header) where
         (named-as s h n (λ k. Unit {0}) (λ c. Unit {0}) (λ j. sizes n j ≡ size j) a l (λ k b. tt) (λ c b. tt) (sizes-below n) e q))
 
 -- a child as its parent's count meets it
-pub record Part (s : List ℤ) (h : Header) (n a : ℕ) : Type 0 where
+pub record Part (s : List ℤ) (base n a : ℕ) : Type 0 where
   pub less : a < n
-  pub exists : a < h .nodes
-  pub small : treeSize s h a ≤ 1024
+  pub under : NodeAt s base a
+  pub small : treeSize s (headerOf s) a ≤ 1024
 
-pub parts : (s : List ℤ) (h : Header) (n : ℕ) → Accepted s h → n < h .nodes → (e : Expr) → exprOf s h n ≡ e → Each (λ k. Unit {0}) (λ c. Unit {0}) SmallFactor (Part s h n) e
-parts s h n a l =
-    named-as s h n (λ k. Unit {0}) (λ c. Unit {0}) (Part s h n) a l (λ k b. tt) (λ c b. tt)
-    (λ j b. record { less = b; exists = omega arith; small = omega (arith, size-small s h a j (omega arith), a .sized .limits .nodes) })
+module _ {s : List ℤ} {base n : ℕ} (v : NodeAt s base n) where
+  part : (a : ℕ) → a < n → Part s base n a
+  part a l =
+      let e : a < headerOf s .nodes = omega (arith, v .exists) in
+      record {
+        less = l;
+        under = record { first = v .first; accepted = v .accepted; exists = e };
+        small = omega (arith, size-small s (headerOf s) (v .accepted) a e, v .accepted .sized .limits .nodes);
+      }
+
+  -- what the count of a node finds in its expression
+  pub parts : (e : Expr) → exprOf s (headerOf s) n ≡ e → Each (λ k. Unit {0}) (λ c. Unit {0}) SmallFactor (Part s base n) e
+  parts =
+      named-as s (headerOf s) n (λ k. Unit {0}) (λ c. Unit {0}) (Part s base n) (v .accepted) (v .exists) (λ k b. tt) (λ c b. tt) part
+
+  -- the node's size, from those of its children
+  pub by-parts : {e : Expr} → exprOf s (headerOf s) n ≡ e → sizeFrom (treeSize s (headerOf s)) e ≡ treeSize s (headerOf s) n
+  by-parts {e} q = sym (size-as s (headerOf s) (v .accepted) n (v .exists) e q)

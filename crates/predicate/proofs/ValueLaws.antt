@@ -15,9 +15,9 @@ use Rattle.signed.proofs.Parts.{eq-true}
 use Rattle.signed.proofs.Bounds.{In, in-true, small-in, true-small}
 use Rattle.signed.proofs.Numbers.{num-is}
 use Rattle.words.specs.declared.Record.{Record}
-use Rattle.words.specs.Record.{word, recordAt}
+use Rattle.words.specs.Record.{word, number, recordAt}
 use Rattle.layout.specs.declared.Header.{Header}
-use Rattle.layout.specs.Header.{firstNode}
+use Rattle.layout.specs.Header.{headerOf, firstNode}
 use Rattle.layout.specs.Tables.{fact, node}
 use Rattle.node.specs.declared.Kind.{Kind}
 use Rattle.node.specs.declared.Kind.the-variants.{IntLiteral, BoolLiteral, EnumLiteral, Fact, Sum, Difference, Product, Comparison, Verdict, And, Or, Not, Unknown}
@@ -36,8 +36,10 @@ use Rattle.layout.specs.declared.Node.{Node}
 use Rattle.predicate.specs.declared.Expr.{Expr}
 use Rattle.predicate.specs.declared.Expr.the-variants.{Literal, FactOf, Present, One, Two}
 use Rattle.predicate.specs.Exprs.{exprFrom, exprOf}
-use Rattle.predicate.specs.Values.{isTrue, one, two, decides, valueFrom, valueStep, valueOf, truth, Truths, Evaluable, SmallFactor}
-use Rattle.predicate.proofs.ExprLaws.{strong, Each, named-as}
+use Rattle.predicate.specs.Values.{isTrue, one, two, decides, valueFrom, valueStep, valueOf, truth, Truths, SmallFactor}
+use Rattle.predicate.specs.Base.{EvaluableAt}
+use Rattle.predicate.proofs.BaseLaws.{there}
+use Rattle.predicate.proofs.ExprLaws.{strong, Each, read-literal, read-fact, named-as}
 use Rattle.predicate.proofs.Truth.{IsBool, bit-bool, decided}
 use Rattle.predicate.proofs.KindRange.{Within, Ready, value-in-range}
 
@@ -67,7 +69,7 @@ module _ (s : List ℤ) (h : Header) (facts verdicts : List ℤ) where
   value-is n = refl
 
   -- by the node's expression
-  pub value-as : Accepted s h → (n : ℕ) → n < h .nodes → (e : Expr) → exprOf s h n ≡ e → value n ≡ valueFrom facts verdicts value e
+  value-as : Accepted s h → (n : ℕ) → n < h .nodes → (e : Expr) → exprOf s h n ≡ e → value n ≡ valueFrom facts verdicts value e
   value-as a n l e q =
       value-is n
       ∙ rw q
@@ -168,39 +170,50 @@ module _ (s : List ℤ) (h : Header) (facts verdicts : List ℤ) where
     true-in-range n l e = rw (eq-true (value n) (pos 1) e) at (value-in n l)
 
 -- a child as its parent's evaluation meets it
-pub record Child (s : List ℤ) (h : Header) (facts verdicts : List ℤ) (n a : ℕ) : Type 0 where
+pub record Child (s : List ℤ) (base : ℕ) (facts verdicts : List ℤ) (n a : ℕ) : Type 0 where
   pub less : a < n
-  pub over : Evaluable s h facts verdicts a
-  pub small : bounded (valueOf s h facts verdicts a) ≡ true
+  pub under : EvaluableAt s base facts verdicts a
+  pub small : bounded (valueOf s (headerOf s) facts verdicts a) ≡ true
 
-module _ {s : List ℤ} {h : Header} {facts verdicts : List ℤ} {n : ℕ} (v : Evaluable s h facts verdicts n) where
-  child : (a : ℕ) → a < n → Child s h facts verdicts n a
+module _ {s : List ℤ} {base : ℕ} {facts verdicts : List ℤ} {n : ℕ} (v : EvaluableAt s base facts verdicts n) where
+  child : (a : ℕ) → a < n → Child s base facts verdicts n a
   child a l =
-      let e : a < h .nodes = omega (arith, v .exists) in
+      let o = v .over in
+      let e : a < headerOf s .nodes = omega (arith, o .exists) in
       record {
         less = l;
-        over = record { accepted = v .accepted; known = v .known; judged = v .judged; exists = e };
-        small = value-small s h facts verdicts (v .accepted) (v .known) (v .judged) a e;
+        under = record { first = v .first; over = record { accepted = o .accepted; known = o .known; judged = o .judged; exists = e } };
+        small = value-small s (headerOf s) facts verdicts (o .accepted) (o .known) (o .judged) a e;
       }
 
   -- what the evaluation of a node finds in its expression
-  pub found : (e : Expr) → exprOf s h n ≡ e → Each (λ k. k < length facts) (λ c. Unit {0}) SmallFactor (Child s h facts verdicts n) e
+  pub found : (e : Expr) → exprOf s (headerOf s) n ≡ e → Each (λ k. k < length facts) (λ c. Unit {0}) SmallFactor (Child s base facts verdicts n) e
   found =
-      named-as s h n (λ k. k < length facts) (λ c. Unit {0}) (Child s h facts verdicts n) (v .accepted) (v .exists)
-      (λ k l. omega (arith, v .known .long)) (λ c l. tt) child
+      named-as s (headerOf s) n (λ k. k < length facts) (λ c. Unit {0}) (Child s base facts verdicts n) (v .over .accepted) (v .over .exists)
+      (λ k l. omega (arith, v .over .known .long)) (λ c l. tt) child
 
   -- the node's value, from those of its children
-  pub by-expr : {e : Expr} → exprOf s h n ≡ e → valueFrom facts verdicts (valueOf s h facts verdicts) e ≡ valueOf s h facts verdicts n
-  by-expr {e} q = sym (value-as s h facts verdicts (v .accepted) n (v .exists) e q)
+  pub by-expr : {e : Expr} → exprOf s (headerOf s) n ≡ e → valueFrom facts verdicts (valueOf s (headerOf s) facts verdicts) e ≡ valueOf s (headerOf s) facts verdicts n
+  by-expr {e} q = sym (value-as s (headerOf s) facts verdicts (v .over .accepted) n (v .over .exists) e q)
 
-  pub by-one : {op : Unary} {a : Node} {x : ℤ} → exprOf s h n ≡ One op a → x ≡ valueOf s h facts verdicts (a .0) → one op x ≡ valueOf s h facts verdicts n
+  pub by-one : {op : Unary} {a : Node} {x : ℤ} → exprOf s (headerOf s) n ≡ One op a → x ≡ valueOf s (headerOf s) facts verdicts (a .0) → one op x ≡ valueOf s (headerOf s) facts verdicts n
   unfolding valueFrom
   by-one q e = rw e (by-expr q)
 
-  pub by-two : {op : Binary} {a b : Node} {x y : ℤ} → exprOf s h n ≡ Two op a b → x ≡ valueOf s h facts verdicts (a .0) → y ≡ valueOf s h facts verdicts (b .0) → two op x y ≡ valueOf s h facts verdicts n
+  pub by-two : {op : Binary} {a b : Node} {x y : ℤ} → exprOf s (headerOf s) n ≡ Two op a b → x ≡ valueOf s (headerOf s) facts verdicts (a .0) → y ≡ valueOf s (headerOf s) facts verdicts (b .0) → two op x y ≡ valueOf s (headerOf s) facts verdicts n
   unfolding valueFrom
   by-two q e f = rw (e, f) (by-expr q)
 
   -- where the first child decides, the second does not matter
-  pub by-first : {op : Binary} {a b : Node} {x : ℤ} → exprOf s h n ≡ Two op a b → x ≡ valueOf s h facts verdicts (a .0) → decides op x ≡ true → x ≡ valueOf s h facts verdicts n
-  by-first {op} {a} {b} {x} q e d = sym (decided op x (valueOf s h facts verdicts (b .0)) d) ∙ by-two q e refl
+  pub by-first : {op : Binary} {a b : Node} {x : ℤ} → exprOf s (headerOf s) n ≡ Two op a b → x ≡ valueOf s (headerOf s) facts verdicts (a .0) → decides op x ≡ true → x ≡ valueOf s (headerOf s) facts verdicts n
+  by-first {op} {a} {b} {x} q e d = sym (decided op x (valueOf s (headerOf s) facts verdicts (b .0)) d) ∙ by-two q e refl
+
+  -- ---- a node that is read without its expression; w is its kind's word
+
+  pub by-literal : {w : ℕ} → w ≡ number s (base + n) 0 → w < 3 → word s (base + n) 1 ≡ valueOf s (headerOf s) facts verdicts n
+  unfolding valueFrom
+  by-literal {w} a l = by-expr (read-literal w (there v) a l)
+
+  pub by-fact : {w k : ℕ} → w ≡ number s (base + n) 0 → w ≡ 3 → k ≡ number s (base + n) 1 → (k < length facts) × (getD facts k (pos 0) ≡ valueOf s (headerOf s) facts verdicts n)
+  unfolding valueFrom
+  by-fact a e f = let q = read-fact (there v) a e in rw f (found _ q, by-expr q)

@@ -1,4 +1,5 @@
 pub mod Exprs
 pub mod Values
+pub mod Base
 pub mod Sizes
 pub mod Verdicts

@@ -3,10 +3,12 @@ ghost use mathlib.Core.Path.{_≡_};
 ghost use mathlib.Core.Bool.{true};
 ghost use Prim.Native.Nat.{_<_};
 ghost use Rattle.signed.specs.Words.{bounded};
+ghost use Rattle.layout.specs.Header.{headerOf};
 ghost use Rattle.records.specs.Accepted.{Accepted};
 ghost use Rattle.facts.specs.Assembled.{FactsIn};
 ghost use Rattle.predicate.specs.Exprs.{exprOf};
 ghost use Rattle.predicate.specs.Values.{bit, decides, one, two, valueOf, truth, Evaluable, SmallFactor};
+ghost use Rattle.predicate.specs.Base.{NodeAt, EvaluableAt};
 ghost use Rattle.predicate.specs.Verdicts.{whenNode, verdictsOf};
 ghost use Rattle.predicate.specs.Sizes.{treeSize};
 ghost use lib.ListN.{length};
@@ -48,12 +50,13 @@ pub enum Expr {
     Two(Binary, Node, Node),
 }
 
-// The node's expression. A kind that is not listed stands on no accepted sheet.
-pub fn expr_of(s: &[i64], h: Header, n: Node) -> Expr
-    requires { ⌜ Accepted (now s) h × (n .0 < h .nodes) ⌝ }
-    ensures { λ e. ⌜ e ≡ exprOf (now (s .entry)) h (n .0) ⌝ }
+// The node's expression. `base` is the record of the first node, the one number of the header that a tree needs: the header is eleven words, and
+// each call would copy them. A kind that is not listed stands on no accepted sheet.
+pub fn expr_at(s: &[i64], base: usize, n: Node) -> Expr
+    requires { ⌜ NodeAt (now s) base (n .0) ⌝ }
+    ensures { λ e. ⌜ e ≡ exprOf (now (s .entry)) (headerOf (now (s .entry))) (n .0) ⌝ }
 {
-    let at = h.facts + n.0;
+    let at = base + n.0;
     let k = kind_of(number(s, at, 0));
     let a = number(s, at, 1);
     let b = number(s, at, 2);
@@ -117,12 +120,12 @@ fn decides(op: Binary, x: i64) -> bool
     }
 }
 
-// The value of a node. Its children have smaller numbers, so the calls end.
-pub fn value(s: &[i64], h: Header, facts: &[i64], verdicts: &[i64], n: Node) -> i64
-    requires { ⌜ Evaluable (now s) h (now facts) (now verdicts) (n .0) ⌝ }
-    ensures { λ r. ⌜ r ≡ valueOf (now (s .entry)) h (now (facts .entry)) (now (verdicts .entry)) (n .0) ⌝ }
+// The value of a node from those of its children, which have smaller numbers, so the calls end.
+fn evaluate(s: &[i64], base: usize, facts: &[i64], verdicts: &[i64], n: Node) -> i64
+    requires { ⌜ EvaluableAt (now s) base (now facts) (now verdicts) (n .0) ⌝ }
+    ensures { λ r. ⌜ r ≡ valueOf (now (s .entry)) (headerOf (now (s .entry))) (now (facts .entry)) (now (verdicts .entry)) (n .0) ⌝ }
 {
-    let e = expr_of(s, h, n);
+    let e = expr_at(s, base, n);
     match e {
         Expr::Literal(v) => v,
         Expr::FactOf(k) => facts[k],
@@ -130,15 +133,40 @@ pub fn value(s: &[i64], h: Header, facts: &[i64], verdicts: &[i64], n: Node) -> 
             let k = c.0;
             word_entry(verdicts, k)
         }
-        Expr::One(op, a) => apply_one(op, value(s, h, facts, verdicts, a)),
+        Expr::One(op, a) => apply_one(op, operand(s, base, facts, verdicts, a)),
         Expr::Two(op, a, b) => {
-            let x = value(s, h, facts, verdicts, a);
+            let x = operand(s, base, facts, verdicts, a);
             if decides(op, x) {
                 return x;
             }
-            apply_two(op, x, value(s, h, facts, verdicts, b))
+            apply_two(op, x, operand(s, base, facts, verdicts, b))
         }
     }
+}
+
+// The value of a child. A literal (kinds 0 to 2) or a fact (kind 3) is read at once, which spares a call for each.
+fn operand(s: &[i64], base: usize, facts: &[i64], verdicts: &[i64], n: Node) -> i64
+    requires { ⌜ EvaluableAt (now s) base (now facts) (now verdicts) (n .0) ⌝ }
+    ensures { λ r. ⌜ r ≡ valueOf (now (s .entry)) (headerOf (now (s .entry))) (now (facts .entry)) (now (verdicts .entry)) (n .0) ⌝ }
+{
+    let at = base + n.0;
+    let kind = number(s, at, 0);
+    if kind < 3 {
+        return word(s, at, 1);
+    }
+    if kind == 3 {
+        let k = number(s, at, 1);
+        return facts[k];
+    }
+    evaluate(s, base, facts, verdicts, n)
+}
+
+// The value of a node.
+pub fn value(s: &[i64], h: Header, facts: &[i64], verdicts: &[i64], n: Node) -> i64
+    requires { ⌜ Evaluable (now s) h (now facts) (now verdicts) (n .0) ⌝ }
+    ensures { λ r. ⌜ r ≡ valueOf (now (s .entry)) h (now (facts .entry)) (now (verdicts .entry)) (n .0) ⌝ }
+{
+    evaluate(s, h.facts, facts, verdicts, n)
 }
 
 // Whether a node is true: a when-node, a precondition, a branch.
@@ -168,12 +196,20 @@ pub fn tree_size(s: &[i64], h: Header, n: Node) -> usize
     requires { ⌜ Accepted (now s) h × (n .0 < h .nodes) ⌝ }
     ensures { λ r. ⌜ r ≡ treeSize (now (s .entry)) h (n .0) ⌝ }
 {
-    let e = expr_of(s, h, n);
+    size_at(s, h.facts, n)
+}
+
+// The same, from the record of the first node.
+fn size_at(s: &[i64], base: usize, n: Node) -> usize
+    requires { ⌜ NodeAt (now s) base (n .0) ⌝ }
+    ensures { λ r. ⌜ r ≡ treeSize (now (s .entry)) (headerOf (now (s .entry))) (n .0) ⌝ }
+{
+    let e = expr_at(s, base, n);
     match e {
         Expr::Literal(_) => 1,
         Expr::FactOf(_) => 1,
         Expr::Present(_) => 1,
-        Expr::One(_, a) => 1 + tree_size(s, h, a),
-        Expr::Two(_, a, b) => 1 + tree_size(s, h, a) + tree_size(s, h, b),
+        Expr::One(_, a) => 1 + size_at(s, base, a),
+        Expr::Two(_, a, b) => 1 + size_at(s, base, a) + size_at(s, base, b),
     }
 }

@@ -93,6 +93,7 @@ accepted s a =
     let h8 = rest-good _ _ h7 in
     let h9 = rest-good _ _ h8 in
     record {
+      header = refl;
       sized = sized s (header-good s a);
       groups = groups-good s a;
       facts = first-good _ _ h0;

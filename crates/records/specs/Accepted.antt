@@ -6,6 +6,7 @@ use mathlib.Core.List.{List}
 use Prim.Native.Nat.{ℕ, _<_}
 use lib.IntN.{ℤ}
 use Rattle.layout.specs.declared.Header.{Header}
+use Rattle.layout.specs.Header.{headerOf}
 use Rattle.layout.specs.Sized.{Sized}
 use Rattle.layout.specs.Groups.{goodGroups}
 use Rattle.layout.specs.Tables.{entity}
@@ -18,6 +19,7 @@ use Rattle.records.specs.Flows.{goodFlow, goodStep, goodRoute}
 
 -- the sheet s, with the header h, has no fault
 pub record Accepted (s : List ℤ) (h : Header) : Type 0 where
+  pub header : h ≡ headerOf s
   pub sized : Sized s h
   pub groups : goodGroups s h ≡ true
   pub facts : (k : ℕ) → k < h .facts → goodFact s k ≡ true

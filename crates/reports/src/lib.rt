@@ -6,6 +6,8 @@ ghost use Rattle.signed.specs.Words.{num};
 ghost use Rattle.records.specs.Accepted.{Accepted};
 ghost use Rattle.records.specs.Entities.{states};
 ghost use Rattle.records.specs.Rules.{stratum};
+ghost use lib.ListN.{length};
+ghost use Rattle.sheet.specs.Parts.{Blank, fewNodes};
 ghost use Rattle.causes.specs.Causes.{admissible, canCause};
 ghost use Rattle.causes.specs.Reported.{Reported};
 ghost use Rattle.reports.specs.Reports.{size, found, stateExists, yesNo, outcomes, admissibleNumbers, causeNumbers};
@@ -26,6 +28,7 @@ use layout::Operation;
 use layout::Persona;
 use layout::Rule;
 use listing::longest;
+use sheet::few_nodes;
 use signed::num;
 use words::number;
 
@@ -162,13 +165,20 @@ fn answer_admissible(
     yes_no(causes::admissible(s, h, lows, highs, n, q, p, o))
 }
 
-// S3a: whether the operation is admissible to the persona in that state of the entity. The ranges are those of the checker.
-pub fn admissible(s: &[i64], entity: i64, state: i64, persona: i64, operation: i64) -> Count
+// S3a on two arrays of zeros, which take the nodes' value ranges.
+fn admissible_on(
+    s: &[i64],
+    lows: &mut [i64],
+    highs: &mut [i64],
+    entity: i64,
+    state: i64,
+    persona: i64,
+    operation: i64,
+) -> Count
+    requires { ⌜ Blank (now s) (now lows) × Blank (now s) (now highs) × (length (now highs) ≡ length (now lows)) ⌝ }
     ensures { λ r. ⌜ r ≡ admissibleReport (now (s .entry)) entity state persona operation ⌝ }
 {
-    let mut lows = [0i64; Header::NODES];
-    let mut highs = [0i64; Header::NODES];
-    match open_ranges(s, &mut lows, &mut highs) {
+    match open_ranges(s, lows, highs) {
         Opened::Refused(r) => Count::Refused(r),
         Opened::Sheet(h) => {
             let known = state_exists(s, h, entity, state)
@@ -179,8 +189,8 @@ pub fn admissible(s: &[i64], entity: i64, state: i64, persona: i64, operation: i
                 Status::Done => Count::Is(answer_admissible(
                     s,
                     h,
-                    &lows,
-                    &highs,
+                    lows,
+                    highs,
                     entity,
                     state,
                     persona,
@@ -188,6 +198,34 @@ pub fn admissible(s: &[i64], entity: i64, state: i64, persona: i64, operation: i
                 )),
             }
         }
+    }
+}
+
+fn admissible_of_few(s: &[i64], entity: i64, state: i64, persona: i64, operation: i64) -> Count
+    requires { ⌜ fewNodes (now s) ≡ true ⌝ }
+    ensures { λ r. ⌜ r ≡ admissibleReport (now (s .entry)) entity state persona operation ⌝ }
+{
+    let mut lows = [0i64; 128];
+    let mut highs = [0i64; 128];
+    admissible_on(s, &mut lows, &mut highs, entity, state, persona, operation)
+}
+
+fn admissible_of_many(s: &[i64], entity: i64, state: i64, persona: i64, operation: i64) -> Count
+    ensures { λ r. ⌜ r ≡ admissibleReport (now (s .entry)) entity state persona operation ⌝ }
+{
+    let mut lows = [0i64; Header::NODES];
+    let mut highs = [0i64; Header::NODES];
+    admissible_on(s, &mut lows, &mut highs, entity, state, persona, operation)
+}
+
+// S3a: whether the operation is admissible to the persona in that state of the entity. The ranges are those of the checker.
+pub fn admissible(s: &[i64], entity: i64, state: i64, persona: i64, operation: i64) -> Count
+    ensures { λ r. ⌜ r ≡ admissibleReport (now (s .entry)) entity state persona operation ⌝ }
+{
+    if few_nodes(s) {
+        admissible_of_few(s, entity, state, persona, operation)
+    } else {
+        admissible_of_many(s, entity, state, persona, operation)
     }
 }
 
@@ -213,13 +251,20 @@ fn answer_can_cause(
     yes_no(causes::can_cause(s, h, lows, highs, p, n, a, b))
 }
 
-// S4: whether the persona can cause the change.
-pub fn can_cause(s: &[i64], persona: i64, entity: i64, from: i64, to: i64) -> Count
+// S4 on two arrays of zeros, which take the nodes' value ranges.
+fn can_cause_on(
+    s: &[i64],
+    lows: &mut [i64],
+    highs: &mut [i64],
+    persona: i64,
+    entity: i64,
+    from: i64,
+    to: i64,
+) -> Count
+    requires { ⌜ Blank (now s) (now lows) × Blank (now s) (now highs) × (length (now highs) ≡ length (now lows)) ⌝ }
     ensures { λ r. ⌜ r ≡ canCauseReport (now (s .entry)) persona entity from to ⌝ }
 {
-    let mut lows = [0i64; Header::NODES];
-    let mut highs = [0i64; Header::NODES];
-    match open_ranges(s, &mut lows, &mut highs) {
+    match open_ranges(s, lows, highs) {
         Opened::Refused(r) => Count::Refused(r),
         Opened::Sheet(h) => {
             let known = exists(persona, h.personas)
@@ -230,8 +275,8 @@ pub fn can_cause(s: &[i64], persona: i64, entity: i64, from: i64, to: i64) -> Co
                 Status::Done => Count::Is(answer_can_cause(
                     s,
                     h,
-                    &lows,
-                    &highs,
+                    lows,
+                    highs,
                     persona,
                     entity,
                     from,
@@ -239,6 +284,34 @@ pub fn can_cause(s: &[i64], persona: i64, entity: i64, from: i64, to: i64) -> Co
                 )),
             }
         }
+    }
+}
+
+fn can_cause_of_few(s: &[i64], persona: i64, entity: i64, from: i64, to: i64) -> Count
+    requires { ⌜ fewNodes (now s) ≡ true ⌝ }
+    ensures { λ r. ⌜ r ≡ canCauseReport (now (s .entry)) persona entity from to ⌝ }
+{
+    let mut lows = [0i64; 128];
+    let mut highs = [0i64; 128];
+    can_cause_on(s, &mut lows, &mut highs, persona, entity, from, to)
+}
+
+fn can_cause_of_many(s: &[i64], persona: i64, entity: i64, from: i64, to: i64) -> Count
+    ensures { λ r. ⌜ r ≡ canCauseReport (now (s .entry)) persona entity from to ⌝ }
+{
+    let mut lows = [0i64; Header::NODES];
+    let mut highs = [0i64; Header::NODES];
+    can_cause_on(s, &mut lows, &mut highs, persona, entity, from, to)
+}
+
+// S4: whether the persona can cause the change.
+pub fn can_cause(s: &[i64], persona: i64, entity: i64, from: i64, to: i64) -> Count
+    ensures { λ r. ⌜ r ≡ canCauseReport (now (s .entry)) persona entity from to ⌝ }
+{
+    if few_nodes(s) {
+        can_cause_of_few(s, persona, entity, from, to)
+    } else {
+        can_cause_of_many(s, persona, entity, from, to)
     }
 }
 

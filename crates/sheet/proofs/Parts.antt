@@ -3,11 +3,15 @@
 use mathlib.Core.Path.{_≡_, refl, sym, subst, ap, _∙_}
 use mathlib.Core.Bool.{Bool, true, false}
 use mathlib.Core.List.{List, [], _∷_, _++_}
-use Prim.Native.Nat.{ℕ, _+_, _≤_, _<_}
+use mathlib.Core.Logic.{⊎-elim}
+use Prim.Native.Nat.{ℕ, _+_, _*_, _≤_, _<_}
 use lib.IntN.{ℤ, pos}
 use lib.ListN.{length, getD, replicate, length-replicate}
 use native.Mathlib.Omega.{arith}
 use native.Mathlib.Decide.{decLt}
+use lib.Dec.{leb, ltb}
+use borrow.Author.Tests.{leb-true, ltb-true}
+use Rattle.tables.proofs.Bools.{or-cases}
 use Rattle.tables.specs.Scan.{firstFail}
 use Rattle.tables.specs.Table.{grown, entry}
 use Rattle.tables.proofs.Scanned.{Scanned, first-scan, all-pass}
@@ -20,7 +24,7 @@ use Rattle.layout.specs.declared.Header.{Header}
 use Rattle.layout.specs.Header.{headerOf, goodHeader, firstEntity, firstFlow, records}
 use Rattle.layout.specs.Sized.{Sized}
 use Rattle.layout.specs.Groups.{goodGroups}
-use Rattle.layout.proofs.Limits.{sized}
+use Rattle.layout.proofs.Limits.{sized, sixteen}
 use Rattle.layout.specs.Tables.{entity}
 use Rattle.records.specs.Accept.{Table, tablesOf, goodIn, firstBad, checked}
 use Rattle.records.specs.Entities.{goodEntity, goodTransition}
@@ -29,9 +33,10 @@ use Rattle.records.proofs.Chain.{First, none, here, later, total, first-scanned
 use Rattle.records.proofs.Acceptance.{found, bad-record, no-fault}
 use Rattle.records.specs.Nodes.{rangeStep}
 use Rattle.node.specs.Ranges.{span}
-use Rattle.sheet_nodes.specs.Arrays.{Filled, topStep}
+use Rattle.sheet_nodes.specs.Arrays.{Empty, Filled, topStep}
+use Rattle.sheet_states.specs.Flags.{Declared}
 use Rattle.sheet_roots.specs.Roots.{Known, Names, NamedByNodes}
-use Rattle.sheet.specs.Parts.{upperTables, middleTables, lowerTables, Ranges}
+use Rattle.sheet.specs.Parts.{upperTables, middleTables, lowerTables, Ranges, Blank, Zeros, Unmarked, fewNodes}
 
 -- ---- one table after the other
 
@@ -111,18 +116,22 @@ module _ (s : List ℤ) (h : Header) where
 
 -- ---- from the nodes' arrays
 
-pub ranges-of : {s : List ℤ} {h : Header} {lows highs : List ℤ} {types tops : List ℕ} {named : List Bool} → Filled s h (h .nodes) lows highs types tops named → Ranges s h lows highs
+pub ranges-of : {s : List ℤ} {h : Header} {m w : ℕ} {lows highs : List ℤ} {types tops : List ℕ} {named : List Bool} → Filled s h m w (h .nodes) lows highs types tops named → Ranges s h lows highs
 ranges-of {s} {h} f =
     record {
       low = λ n l. f .low n ∙ ap (λ x. x .low) (grown-at (rangeStep s h) (span (pos 0) (pos 0)) (h .nodes) n l);
       high = λ n l. f .high n ∙ ap (λ x. x .high) (grown-at (rangeStep s h) (span (pos 0) (pos 0)) (h .nodes) n l);
     }
 
-pub known-of : {s : List ℤ} {h : Header} {lows highs : List ℤ} {types tops : List ℕ} {named : List Bool} → Filled s h (h .nodes) lows highs types tops named → Known s h types tops
+pub known-of : {s : List ℤ} {h : Header} {m w : ℕ} {lows highs : List ℤ} {types tops : List ℕ} {named : List Bool} → Filled s h m w (h .nodes) lows highs types tops named → Known s h types tops
 known-of {s} {h} f = record { type = f .type; top = λ j l. f .top j ∙ grown-at (topStep s h) 0 (h .nodes) j l; good = f .good }
 
-pub names-of : {s : List ℤ} {h : Header} {lows highs : List ℤ} {types tops : List ℕ} {named : List Bool} → Filled s h (h .nodes) lows highs types tops named → Names (NamedByNodes s h) named
-names-of f = record { long = f .name-long; is = f .name }
+-- flags by how many they are
+pub own-names : {h : Header} {m : ℕ} {f : ℕ → Bool} {named : List Bool} → Names h m f named → Names h (length named) f named
+own-names {h} {m} {f} {named} n = subst (λ (k : ℕ). Names h k f named) (sym (n .long)) n
+
+pub names-of : {s : List ℤ} {h : Header} {m w : ℕ} {lows highs : List ℤ} {types tops : List ℕ} {named : List Bool} → Filled s h m w (h .nodes) lows highs types tops named → Names h (length named) (NamedByNodes s h) named
+names-of f = own-names (record { room = f .space; long = f .name-long; is = f .name })
 
 pub at-most : (f : ℕ → Bool) (n : ℕ) {k : ℕ} → k ≡ firstFail f 0 n → k ≤ n
 at-most f n e = rw e (first-scan f n .high)
@@ -130,6 +139,39 @@ at-most f n e = rw e (first-scan f n .high)
 pub lower-high : (s : List ℤ) (h : Header) {n : ℕ} → First (lowerTables s h) n → n ≤ h .flows + h .steps + h .routes
 unfolding total
 lower-high s h r = omega (arith, high-first r)
+
+pub own-declared : {s : List ℤ} {h : Header} {m k : ℕ} {t : List Bool} → Declared s h m k t → Declared s h (length t) k t
+own-declared {s} {h} {m} {k} {t} d = subst (λ (n : ℕ). Declared s h n k t) (sym (d .long)) d
+
+-- ---- arrays as they are made
+
+-- the arrays of zeros with the checker's own
+pub empty-of : {h : Header} {lows highs : List ℤ} (w : ℕ) → Zeros h lows highs → h .nodes ≤ w → Empty h (length lows) (length (replicate {A = ℕ} w 0)) lows highs (replicate w 0) (replicate w 0) (replicate w false)
+empty-of w z l =
+    rw (length-replicate {A = ℕ} w 0) (record { room = z .room; space = l; low = z .low; high = z .high; type = refl; top = refl; name = refl })
+
+pub unmarked : {h : Header} (e : ℕ) → h .entities ≤ e → Unmarked h (replicate (256 * e) false) (replicate (16 * e) 0)
+unmarked e l =
+    record {
+      flags = rw (length-replicate (256 * e) false) (omega arith);
+      clear = rw (length-replicate (256 * e) false);
+      stamps = rw (length-replicate {A = ℕ} (16 * e) 0) (omega arith);
+      fresh = rw (length-replicate {A = ℕ} (16 * e) 0);
+    }
+
+-- new arrays of lows and highs
+pub blank : (s : List ℤ) (m : ℕ) → (goodHeader s ≡ true → headerOf s .nodes ≤ m) → Blank s (replicate m (pos 0))
+blank s m l = record { room = λ g. rw (length-replicate m (pos 0)) (l g); zeros = rw (length-replicate m (pos 0)) }
+
+pub blank-few : (s : List ℤ) → fewNodes s ≡ true → Blank s (replicate 128 (pos 0))
+blank-few s f = blank s 128 (λ g. ⊎-elim (λ e. absurd (omega (arith, ltb-true (length s) 16 e, sixteen s g))) (λ e. leb-true (headerOf s .nodes) 128 e) (or-cases (ltb (length s) 16) (leb (headerOf s .nodes) 128) f))
+
+pub blank-many : (s : List ℤ) → Blank s (replicate 1024 (pos 0))
+blank-many s = blank s 1024 (λ g. sized s g .limits .nodes)
+
+-- both, under the header that was read
+pub zeros-of : {s : List ℤ} {h : Header} {lows highs : List ℤ} → Blank s lows → Blank s highs → length highs ≡ length lows → h ≡ headerOf s → goodHeader s ≡ true → Zeros h lows highs
+zeros-of {highs = highs} a b l e g = record { room = rw e (a .room g); low = a .zeros; high = subst (λ (k : ℕ). highs ≡ replicate k (pos 0)) l (b .zeros) }
 
 -- ---- the answer, from the header that was read
 

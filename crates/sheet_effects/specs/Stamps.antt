@@ -35,7 +35,7 @@ pub record Before (s : List ℤ) (h : Header) (t : List Bool) : Type 0 where
   pub sized : Sized s h
   pub groups : goodGroups s h ≡ true
   pub entities : (k : ℕ) → k < h .entities → goodEntity (entity s h k) ≡ true
-  pub declared : Declared s h (h .transitions) t
+  pub declared : Declared s h (length t) (h .transitions) t
   pub operations : (k : ℕ) → k < h .operations → goodOperation s h k ≡ true
 
 -- operation o, where its effects start and end, and how many outcomes it has
@@ -45,16 +45,17 @@ pub record Group (s : List ℤ) (h : Header) (o first end outcomes : ℕ) : Type
   pub ends : end ≡ effectsEnd s h o
   pub has : outcomes ≡ operation s h o .w4
 
--- after e good effects
-pub record Seen (s : List ℤ) (h : Header) (e : ℕ) (t : List ℕ) : Type 0 where
-  pub long : length t ≡ 512
-  pub stamps : (x : ℕ) → x < 512 → getD t x 0 ≡ lastStamp s h x e
+-- after e good effects; there are m stamps, enough for the entities
+pub record Seen (s : List ℤ) (h : Header) (m e : ℕ) (t : List ℕ) : Type 0 where
+  pub room : 16 * h .entities ≤ m
+  pub long : length t ≡ m
+  pub stamps : (x : ℕ) → x < m → getD t x 0 ≡ lastStamp s h x e
   pub good : (j : ℕ) → j < e → goodEffect s h j ≡ true
 
 -- e is the first bad effect from first to end, or end where none is, and then the array is kept up
-pub record Stretch (s : List ℤ) (h : Header) (first end e : ℕ) (t : List ℕ) : Type 0 where
+pub record Stretch (s : List ℤ) (h : Header) (m first end e : ℕ) (t : List ℕ) : Type 0 where
   pub low : first ≤ e
   pub high : e ≤ end
   pub good : (j : ℕ) → j < e → goodEffect s h j ≡ true
   pub bad : e < end → goodEffect s h e ≡ true → ⊥
-  pub seen : end ≤ e → Seen s h end t
+  pub seen : end ≤ e → Seen s h m end t

@@ -4,9 +4,9 @@ ghost use mathlib.Core.Path.{_≡_};
 ghost use mathlib.Core.Bool.{true, false, not, _&&_};
 ghost use Prim.Native.Nat.{ℕ, _+_, _*_, _≤_, _<_};
 ghost use lib.Dec.{eqb};
-ghost use lib.ListN.{length, getD};
+ghost use lib.ListN.{length, getD, replicate};
 ghost use Rattle.tables.specs.Scan.{firstFail};
-ghost use Rattle.sheet_states.specs.Flags.{placeOf, Small, Declared};
+ghost use Rattle.sheet_states.specs.Flags.{placeOf};
 ghost use Rattle.records.specs.Operations.{goodEffect};
 ghost use Rattle.sheet_effects.specs.Stamps.{sourceOf, Before, Group, Seen, Stretch};
 use layout::Header;
@@ -20,7 +20,7 @@ use words::unused;
 
 // Whether the transition is declared, and the outcome with this stamp has no effect from this state of this entity yet.
 fn fresh(declared: &[bool], seen: &[usize], r: Record, stamp: usize) -> bool
-    requires { ⌜ Small r × (length (now declared) ≡ 8192) × (length (now seen) ≡ 512) ⌝ }
+    requires { ⌜ ((r .w0 < 32) × (r .w1 < 16) × (r .w2 < 16)) × (placeOf r < length (now declared)) × (sourceOf r < length (now seen)) ⌝ }
     ensures { λ b. ⌜ b ≡ (getD (now (declared .entry)) (placeOf r) false && not (eqb (getD (now (seen .entry)) (sourceOf r) 0) stamp)) ⌝ }
 {
     let p = place_of(r);
@@ -39,8 +39,8 @@ fn check_group(
     declared: &[bool],
     seen: &mut [usize],
 ) -> usize
-    requires { ⌜ Before (now s) h (now declared) × Group (now s) h o first end outcomes × Seen (now s) h first (now seen) ⌝ }
-    ensures { λ e. ⌜ Stretch (now (s .entry)) h first end e (now (seen .exit)) ⌝ }
+    requires { ⌜ Before (now s) h (now declared) × Group (now s) h o first end outcomes × Seen (now s) h (length (now seen)) first (now seen) ⌝ }
+    ensures { λ e. ⌜ Stretch (now (s .entry)) h (length (now (seen .entry))) first end e (now (seen .exit)) ⌝ }
 {
     let base = h.first_effect();
     let mut before = 0;
@@ -63,11 +63,11 @@ fn check_group(
     e
 }
 
-pub fn check_effects(s: &[i64], h: Header, declared: &[bool]) -> usize
-    requires { ⌜ Before (now s) h (now declared) ⌝ }
+// `seen` has no stamp yet.
+pub fn check_effects(s: &[i64], h: Header, declared: &[bool], seen: &mut [usize]) -> usize
+    requires { ⌜ Before (now s) h (now declared) × (16 * h .entities ≤ length (now seen)) × (now seen ≡ replicate (length (now seen)) 0) ⌝ }
     ensures { λ e. ⌜ e ≡ firstFail (goodEffect (now (s .entry)) h) 0 (h .effects) ⌝ }
 {
-    let mut seen = [0usize; 512];
     let base = h.first_operation();
     let n = h.operations;
     let mut first = 0;
@@ -75,7 +75,7 @@ pub fn check_effects(s: &[i64], h: Header, declared: &[bool]) -> usize
     while o < n {
         let end = first + number(s, base + o, 3);
         let outcomes = number(s, base + o, 4);
-        let e = check_group(s, h, o, first, end, outcomes, declared, &mut seen);
+        let e = check_group(s, h, o, first, end, outcomes, declared, seen);
         if e < end {
             return e;
         }

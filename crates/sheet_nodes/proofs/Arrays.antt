@@ -104,19 +104,21 @@ types-same Unknown op a a′ b b′ f g = refl
 
 -- ---- before the first node
 
-pub begin : (s : List ℤ) (h : Header) {lows highs : List ℤ} {types tops : List ℕ} {named : List Bool} → Empty lows highs types tops named → Filled s h 0 lows highs types tops named
-begin s h e =
+pub begin : (s : List ℤ) (h : Header) {lows highs : List ℤ} {types tops : List ℕ} {named : List Bool} {m w : ℕ} → Empty h m w lows highs types tops named → Filled s h m w 0 lows highs types tops named
+begin s h {m} {w} e =
     rw (e .low, e .high, e .type, e .top, e .name) (record {
-      low-long = length-replicate 1024 (pos 0);
-      high-long = length-replicate 1024 (pos 0);
-      type-long = length-replicate {A = ℕ} 1024 0;
-      top-long = length-replicate {A = ℕ} 1024 0;
-      name-long = length-replicate 1024 false;
-      low = table-none (rangeStep s h) (span (pos 0) (pos 0)) (λ x. x .low) (pos 0) refl 1024;
-      high = table-none (rangeStep s h) (span (pos 0) (pos 0)) (λ x. x .high) (pos 0) refl 1024;
+      room = e .room;
+      space = e .space;
+      low-long = length-replicate m (pos 0);
+      high-long = length-replicate m (pos 0);
+      type-long = length-replicate {A = ℕ} w 0;
+      top-long = length-replicate {A = ℕ} w 0;
+      name-long = length-replicate w false;
+      low = table-none (rangeStep s h) (span (pos 0) (pos 0)) (λ x. x .low) (pos 0) refl m;
+      high = table-none (rangeStep s h) (span (pos 0) (pos 0)) (λ x. x .high) (pos 0) refl m;
       type = λ j l. absurd (omega arith);
-      top = table-none (topStep s h) 0 (λ x. x) 0 refl 1024;
-      name = λ a l. getD-replicate 1024 a false false l ∙ sym (unfold namedByNodes in any-zero (λ j. nodeNames s h j a));
+      top = table-none (topStep s h) 0 (λ x. x) 0 refl w;
+      name = λ a l. getD-replicate w a false false l ∙ sym (unfold namedByNodes in any-zero (λ j. nodeNames s h j a));
       good = λ j l. absurd (omega arith);
     })
 
@@ -131,7 +133,7 @@ words-good : (s : List ℤ) (h : Header) (n : ℕ) → goodNode s h n ≡ true �
 unfolding goodNode
 words-good s h n p = let q = simp tests at p in q .0 .0 .0
 
-module _ (s : List ℤ) (h : Header) (n : ℕ) {lows highs : List ℤ} {types tops : List ℕ} {named : List Bool} (f : Filled s h n lows highs types tops named) where
+module _ (s : List ℤ) (h : Header) (n : ℕ) {lows highs : List ℤ} {types tops : List ℕ} {named : List Bool} {m w : ℕ} (f : Filled s h m w n lows highs types tops named) where
   abbrev zero-span : Range
   zero-span = span (pos 0) (pos 0)
 
@@ -162,11 +164,11 @@ module _ (s : List ℤ) (h : Header) (n : ℕ) {lows highs : List ℤ} {types to
   abbrev types-of : Bool
   types-of = goodTypes (nodeKind s h n) (node s h n .w1) (typeOf s h (leftOf s h n)) (typeOf s h (rightOf s h n))
 
-  fits-same : (x : Range) → n ≤ 1024 → fitsTests n (nodeKind s h n) (node s h n) x types named ≡ (children && types-of && goodSpan x)
-  fits-same x m = rw same (⊎-elim yes′ no′ (bool-cases children))
+  fits-same : (x : Range) → n < h .nodes → fitsTests n (nodeKind s h n) (node s h n) x types named ≡ (children && types-of && goodSpan x)
+  fits-same x l = rw same (⊎-elim yes′ no′ (bool-cases children))
     where
       same : goodChildren n (hasLeft (nodeKind s h n)) (leftOf s h n) (getD named (leftOf s h n) false) (hasRight (nodeKind s h n)) (rightOf s h n) (getD named (rightOf s h n) false) ≡ children
-      same = children-same n (hasLeft (nodeKind s h n)) (leftOf s h n) _ _ (hasRight (nodeKind s h n)) (rightOf s h n) _ _ (λ q. f .name (leftOf s h n) (omega arith)) (λ q. f .name (rightOf s h n) (omega arith))
+      same = children-same n (hasLeft (nodeKind s h n)) (leftOf s h n) _ _ (hasRight (nodeKind s h n)) (rightOf s h n) _ _ (λ q. f .name (leftOf s h n) (omega (arith, f .space))) (λ q. f .name (rightOf s h n) (omega (arith, f .space)))
 
       array-types : Bool
       array-types = goodTypes (nodeKind s h n) (node s h n .w1) (getD types (leftOf s h n) 0) (getD types (rightOf s h n) 0)
@@ -200,7 +202,7 @@ module _ (s : List ℤ) (h : Header) (n : ℕ) {lows highs : List ℤ} {types to
         -- the tests from the arrays are the definition's
         tests-are : fitsTests n k r x types named ≡ goodNode s h n
         unfolding goodNode
-        tests-are = rw (range-is, kind-is, er) (rw (rw (kind-is, er) at words) (fits-same (rangeOf s h n) (omega (arith, z .limits .nodes))))
+        tests-are = rw (range-is, kind-is, er) (rw (rw (kind-is, er) at words) (fits-same (rangeOf s h n) l))
 
         module _ {b : Bool} (eb : b ≡ fitsTests n k r x types named) where
           pub stop-tests : b ≡ false → goodNode s h n ≡ false
@@ -210,19 +212,21 @@ module _ (s : List ℤ) (h : Header) (n : ℕ) {lows highs : List ℤ} {types to
             good-now : goodNode s h n ≡ true
             good-now = sym (eb ∙ tests-are) ∙ q
 
-            names-now : (a : ℕ) → a < 1024 → getD (marked (hasRight k) (right k r) (marked (hasLeft k) (left k r) named)) a false ≡ namedByNodes s h (n + 1) a
+            names-now : (a : ℕ) → a < w → getD (marked (hasRight k) (right k r) (marked (hasLeft k) (left k r) named)) a false ≡ namedByNodes s h (n + 1) a
             unfolding namedByNodes nodeNames
-            names-now a m =
+            names-now a v =
                 marked-flags (λ a. anyBelow (λ j. nodeNames s h j a) n || (hasLeft k && eqb (left k r) a)) (hasRight k) (right k r) (marked (hasLeft k) (left k r) named)
-                (λ a u. marked-flags (λ a. anyBelow (λ j. nodeNames s h j a) n) (hasLeft k) (left k r) named (λ a w. f .name a (omega (arith, f .name-long))) a (rw (length-marked (hasLeft k) (left k r) named) at u)) a (rw (length-marked (hasLeft k) (left k r) named) (omega (arith, f .name-long)))
+                (λ a u. marked-flags (λ a. anyBelow (λ j. nodeNames s h j a) n) (hasLeft k) (left k r) named (λ a y. f .name a (omega (arith, f .name-long))) a (rw (length-marked (hasLeft k) (left k r) named) at u)) a (rw (length-marked (hasLeft k) (left k r) named) (omega (arith, f .name-long)))
                 ∙ or-assoc (anyBelow (λ j. nodeNames s h j a) n) (hasLeft k && eqb (left k r) a) (hasRight k && eqb (right k r) a)
                 ∙ rw (any-more (λ j. nodeNames s h j a) n, kind-is, er)
 
             pub again : {lo hi : ℤ} {t u : ℕ} {v : List Bool} → lo ≡ x .low → hi ≡ x .high → t ≡ typeFrom k r (factCode s h (r .w1)) → u ≡ topFrom k (r .w1) (getD tops (left k r) 0) (getD tops (right k r) 0)
                 → v ≡ marked (hasRight k) (right k r) (marked (hasLeft k) (left k r) named)
-                → Filled s h (n + 1) (set lows n lo) (set highs n hi) (set types n t) (set tops n u) v
+                → Filled s h m w (n + 1) (set lows n lo) (set highs n hi) (set types n t) (set tops n u) v
             again el eh et eu ev =
                 rw (ev, el, eh) (record {
+                  room = f .room;
+                  space = f .space;
                   low-long = length-set lows n (x .low) ∙ f .low-long;
                   high-long = length-set highs n (x .high) ∙ f .high-long;
                   type-long = length-set types n _ ∙ f .type-long;
@@ -236,14 +240,14 @@ module _ (s : List ℤ) (h : Header) (n : ℕ) {lows highs : List ℤ} {types to
                   good = extend-one (λ (j : ℕ). goodNode s h j ≡ true) n (f .good) good-now;
                 })
               where
-                few : n < 1024
-                few = omega (arith, z .limits .nodes)
+                few : n < w
+                few = omega (arith, f .space)
 
                 small-low : n < length lows
-                small-low = omega (arith, f .low-long, few)
+                small-low = omega (arith, f .low-long, f .room)
 
                 small-high : n < length highs
-                small-high = omega (arith, f .high-long, few)
+                small-high = omega (arith, f .high-long, f .room)
 
                 small-type : n < length types
                 small-type = omega (arith, f .type-long, few)
@@ -281,7 +285,7 @@ module _ (s : List ℤ) (h : Header) (n : ℕ) {lows highs : List ℤ} {types to
 
       pub more : e .good ≡ true → {lo hi : ℤ} {v : List Bool} {k : Kind} → lo ≡ e .range .low → hi ≡ e .range .high → k ≡ kindOf (r .w0)
           → v ≡ marked (hasRight k) (right k r) (marked (hasLeft k) (left k r) named)
-          → Filled s h (n + 1) (set lows n lo) (set highs n hi) (set types n (e .kind)) (set tops n (e .top)) v
+          → Filled s h m w (n + 1) (set lows n lo) (set highs n hi) (set types n (e .kind)) (set tops n (e .top)) v
       more p el eh ek ev = again z l er refl refl words refl refl (and-right ok fit both) (el ∙ ap (λ (x : Range). x .low) (d .range words)) (eh ∙ ap (λ (x : Range). x .high) (d .range words)) (d .kind words) (d .top words) (rw ek at ev)
         where
           both : (ok && fit) ≡ true
@@ -290,24 +294,24 @@ module _ (s : List ℤ) (h : Header) (n : ℕ) {lows highs : List ℤ} {types to
           words : ok ≡ true
           words = and-left ok fit both
 
-pub finish : (s : List ℤ) (h : Header) (n : ℕ) {lows highs : List ℤ} {types tops : List ℕ} {named : List Bool} → Filled s h n lows highs types tops named → n ≤ h .nodes → h .nodes ≤ n
-    → Filled s h (h .nodes) lows highs types tops named
-finish s h n {lows} {highs} {types} {tops} {named} f a b = subst (λ (m : ℕ). Filled s h m lows highs types tops named) (omega arith) f
+pub finish : (s : List ℤ) (h : Header) (n : ℕ) {lows highs : List ℤ} {types tops : List ℕ} {named : List Bool} {m w : ℕ} → Filled s h m w n lows highs types tops named → n ≤ h .nodes → h .nodes ≤ n
+    → Filled s h m w (h .nodes) lows highs types tops named
+finish s h n {lows} {highs} {types} {tops} {named} {m} {w} f a b = subst (λ (k : ℕ). Filled s h m w k lows highs types tops named) (omega arith) f
 
 -- how long the empty arrays are
-pub record Sizes (lows highs : List ℤ) (types tops : List ℕ) (named : List Bool) : Type 0 where
-  pub low : length lows ≡ 1024
-  pub high : length highs ≡ 1024
-  pub type : length types ≡ 1024
-  pub top : length tops ≡ 1024
-  pub name : length named ≡ 1024
+pub record Sizes (m w : ℕ) (lows highs : List ℤ) (types tops : List ℕ) (named : List Bool) : Type 0 where
+  pub low : length lows ≡ m
+  pub high : length highs ≡ m
+  pub type : length types ≡ w
+  pub top : length tops ≡ w
+  pub name : length named ≡ w
 
-pub sizes : {lows highs : List ℤ} {types tops : List ℕ} {named : List Bool} → Empty lows highs types tops named → Sizes lows highs types tops named
-sizes e =
+pub sizes : {h : Header} {m w : ℕ} {lows highs : List ℤ} {types tops : List ℕ} {named : List Bool} → Empty h m w lows highs types tops named → Sizes m w lows highs types tops named
+sizes {m = m} {w} e =
     rw (e .low, e .high, e .type, e .top, e .name) (record {
-      low = length-replicate 1024 (pos 0);
-      high = length-replicate 1024 (pos 0);
-      type = length-replicate {A = ℕ} 1024 0;
-      top = length-replicate {A = ℕ} 1024 0;
-      name = length-replicate 1024 false;
+      low = length-replicate m (pos 0);
+      high = length-replicate m (pos 0);
+      type = length-replicate {A = ℕ} w 0;
+      top = length-replicate {A = ℕ} w 0;
+      name = length-replicate w false;
     })

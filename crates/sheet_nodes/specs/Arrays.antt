@@ -3,7 +3,7 @@
 use mathlib.Core.Path.{_≡_}
 use mathlib.Core.Bool.{Bool, true, false, cond, _&&_}
 use mathlib.Core.List.{List}
-use Prim.Native.Nat.{ℕ, _+_, _<_, max}
+use Prim.Native.Nat.{ℕ, _+_, _≤_, _<_, max}
 use lib.IntN.{ℤ, pos}
 use lib.Dec.{ltb}
 use lib.ListN.{length, getD, replicate}
@@ -78,24 +78,28 @@ pub record Bounds (lows highs : List ℤ) : Type 0 where
   pub low : (j : ℕ) → bounded (getD lows j (pos 0)) ≡ true
   pub high : (j : ℕ) → bounded (getD highs j (pos 0)) ≡ true
 
--- the arrays before the scan
-pub record Empty (lows highs : List ℤ) (types tops : List ℕ) (named : List Bool) : Type 0 where
-  pub low : lows ≡ replicate 1024 (pos 0)
-  pub high : highs ≡ replicate 1024 (pos 0)
-  pub type : types ≡ replicate 1024 0
-  pub top : tops ≡ replicate 1024 0
-  pub name : named ≡ replicate 1024 false
+-- the arrays before the scan: m entries in the first two and w in the others, enough for the nodes
+pub record Empty (h : Header) (m w : ℕ) (lows highs : List ℤ) (types tops : List ℕ) (named : List Bool) : Type 0 where
+  pub room : h .nodes ≤ m
+  pub space : h .nodes ≤ w
+  pub low : lows ≡ replicate m (pos 0)
+  pub high : highs ≡ replicate m (pos 0)
+  pub type : types ≡ replicate w 0
+  pub top : tops ≡ replicate w 0
+  pub name : named ≡ replicate w false
 
 -- and after n good nodes
-pub record Filled (s : List ℤ) (h : Header) (n : ℕ) (lows highs : List ℤ) (types tops : List ℕ) (named : List Bool) : Type 0 where
-  pub low-long : length lows ≡ 1024
-  pub high-long : length highs ≡ 1024
-  pub type-long : length types ≡ 1024
-  pub top-long : length tops ≡ 1024
-  pub name-long : length named ≡ 1024
+pub record Filled (s : List ℤ) (h : Header) (m w n : ℕ) (lows highs : List ℤ) (types tops : List ℕ) (named : List Bool) : Type 0 where
+  pub room : h .nodes ≤ m
+  pub space : h .nodes ≤ w
+  pub low-long : length lows ≡ m
+  pub high-long : length highs ≡ m
+  pub type-long : length types ≡ w
+  pub top-long : length tops ≡ w
+  pub name-long : length named ≡ w
   pub low : (j : ℕ) → getD lows j (pos 0) ≡ getD (grown (rangeStep s h) (span (pos 0) (pos 0)) n) j (span (pos 0) (pos 0)) .low
   pub high : (j : ℕ) → getD highs j (pos 0) ≡ getD (grown (rangeStep s h) (span (pos 0) (pos 0)) n) j (span (pos 0) (pos 0)) .high
   pub type : (j : ℕ) → j < n → getD types j 0 ≡ typeOf s h j
   pub top : (j : ℕ) → getD tops j 0 ≡ getD (grown (topStep s h) 0 n) j 0
-  pub name : (a : ℕ) → a < 1024 → getD named a false ≡ namedByNodes s h n a
+  pub name : (a : ℕ) → a < w → getD named a false ≡ namedByNodes s h n a
   pub good : (j : ℕ) → j < n → goodNode s h j ≡ true

@@ -4,7 +4,7 @@ ghost use mathlib.Core.Path.{_≡_};
 ghost use mathlib.Core.Bool.{true, false};
 ghost use Prim.Native.Nat.{ℕ, _+_, _≤_, _<_, max};
 ghost use lib.IntN.{pos};
-ghost use lib.ListN.{getD};
+ghost use lib.ListN.{length, getD};
 ghost use Rattle.tables.specs.Scan.{firstFail};
 ghost use Rattle.tables.specs.Table.{marked};
 ghost use Rattle.words.specs.Record.{word};
@@ -431,9 +431,9 @@ pub fn check_nodes(
     tops: &mut [usize],
     named: &mut [bool],
 ) -> usize
-    requires { ⌜ Sized (now s) h × ((j : ℕ) → j < h .facts → goodFact (now s) j ≡ true) × Empty (now lows) (now highs) (now types) (now tops) (now named) ⌝ }
+    requires { ⌜ Sized (now s) h × ((j : ℕ) → j < h .facts → goodFact (now s) j ≡ true) × Empty h (length (now lows)) (length (now types)) (now lows) (now highs) (now types) (now tops) (now named) ⌝ }
     ensures { λ n. ⌜ n ≡ firstFail (goodNode (now (s .entry)) h) 0 (h .nodes) ⌝ }
-    ensures { λ n. ⌜ (h .nodes ≤ n → Filled (now (s .entry)) h (h .nodes) (now (lows .exit)) (now (highs .exit)) (now (types .exit)) (now (tops .exit)) (now (named .exit))) ⌝ }
+    ensures { λ n. ⌜ (h .nodes ≤ n → Filled (now (s .entry)) h (length (now (lows .entry))) (length (now (types .entry))) (h .nodes) (now (lows .exit)) (now (highs .exit)) (now (types .exit)) (now (tops .exit)) (now (named .exit))) ⌝ }
 {
     let size = h.nodes;
     let mut n = 0;

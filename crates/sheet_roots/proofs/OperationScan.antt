@@ -25,13 +25,13 @@ use Rattle.records.specs.Operations.{goodMask, goodOperation}
 use Rattle.sheet_roots.specs.Roots.{Typed, Names, rootTest}
 use Rattle.sheet_roots.proofs.Roots.{root-is, name-more, renamed}
 
-pub record Turn (s : List ℤ) (h : Header) (k sum : ℕ) (named : List Bool) : Type 0 where
+pub record Turn (s : List ℤ) (h : Header) (room k sum : ℕ) (named : List Bool) : Type 0 where
   pub here : k ≤ h .operations
   pub is : sum ≡ sumBelow (effectCount s h) k
-  pub names : Names (namedByOperations s h k) named
+  pub names : Names h room (namedByOperations s h k) named
   pub good : (j : ℕ) → j < k → goodOperation s h j ≡ true
 
-pub begin : (s : List ℤ) (h : Header) (named : List Bool) → Names (namedByRules s h (h .rules)) named → Turn s h 0 0 named
+pub begin : (s : List ℤ) (h : Header) {room : ℕ} (named : List Bool) → Names h room (namedByRules s h (h .rules)) named → Turn s h room 0 0 named
 unfolding namedByOperations
 begin s h named n =
     record {
@@ -51,7 +51,7 @@ count-of : (s : List ℤ) (h : Header) (k : ℕ) → operation s h k .w3 ≡ eff
 unfolding recordAt
 count-of s h k = refl
 
-module _ (s : List ℤ) (h : Header) (k sum : ℕ) (types : List ℕ) {named : List Bool} (few : h .nodes ≤ 1024) (typed : Typed s h types) (w : Turn s h k sum named) (l : k < h .operations)
+module _ (s : List ℤ) (h : Header) (k sum : ℕ) (types : List ℕ) {named : List Bool} {room : ℕ} (typed : Typed s h types) (w : Turn s h room k sum named) (l : k < h .operations)
     {base : ℕ} {r : Record} (eb : base ≡ firstOperation h) (er : r ≡ recordAt s (base + k)) where
   is : r ≡ operation s h k
   is = er ∙ rw eb
@@ -62,9 +62,9 @@ module _ (s : List ℤ) (h : Header) (k sum : ℕ) (types : List ℕ) {named : L
   module _ {rooted m u : Bool} (eo : rooted ≡ rootTest h (r .w1) types named) (em : m ≡ goodMask h (r .w0)) (eu : u ≡ unused 5 r) where
     test : (m && rooted && eqb (r .w2) sum && leb 1 (r .w3) && leb 1 (r .w4) && leb (r .w4) 8 && u) ≡ goodOperation s h k
     unfolding goodOperation
-    test = rw (em, eo ∙ root-is s h (r .w1) types few typed (w .names), eu, is, w .is)
+    test = rw (em, eo ∙ root-is s h (r .w1) types typed (w .names), eu, is, w .is)
 
-    pub again : {v : List Bool} → (m && rooted && eqb (r .w2) sum && leb 1 (r .w3) && leb 1 (r .w4) && leb (r .w4) 8 && u) ≡ true → v ≡ marked true (r .w1) named → Turn s h (k + 1) (sum + r .w3) v
+    pub again : {v : List Bool} → (m && rooted && eqb (r .w2) sum && leb 1 (r .w3) && leb 1 (r .w4) && leb (r .w4) 8 && u) ≡ true → v ≡ marked true (r .w1) named → Turn s h room (k + 1) (sum + r .w3) v
     again p e =
         record {
           here = omega arith;
@@ -76,7 +76,7 @@ module _ (s : List ℤ) (h : Header) (k sum : ℕ) (types : List ℕ) {named : L
     pub stop : (m && rooted && eqb (r .w2) sum && leb 1 (r .w3) && leb 1 (r .w4) && leb (r .w4) 8 && u) ≡ false → k ≡ firstFail (goodOperation s h) 0 (h .operations)
     stop p = fail-at (goodOperation s h) (h .operations) k l (w .good) (sym test ∙ p)
 
-pub finish : (s : List ℤ) (h : Header) (k sum : ℕ) {named : List Bool} → Turn s h k sum named → h .operations ≤ k
-    → (k ≡ firstFail (goodOperation s h) 0 (h .operations)) × (h .operations ≤ k → Names (namedByOperations s h (h .operations)) named)
-finish s h k sum {named} w l =
-    (fail-none (goodOperation s h) (h .operations) k (w .here) l (w .good), λ _. subst (λ (n : ℕ). Names (namedByOperations s h n) named) (omega (arith, w .here)) (w .names))
+pub finish : (s : List ℤ) (h : Header) (k sum : ℕ) {named : List Bool} {room : ℕ} → Turn s h room k sum named → h .operations ≤ k
+    → (k ≡ firstFail (goodOperation s h) 0 (h .operations)) × (h .operations ≤ k → Names h room (namedByOperations s h (h .operations)) named)
+finish s h k sum {named} {room} w l =
+    (fail-none (goodOperation s h) (h .operations) k (w .here) l (w .good), λ _. subst (λ (n : ℕ). Names h room (namedByOperations s h n) named) (omega (arith, w .here)) (w .names))

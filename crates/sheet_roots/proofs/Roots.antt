@@ -18,22 +18,22 @@ use Rattle.records.specs.Names.{goodRoot}
 use Rattle.sheet_roots.specs.Roots.{Typed, Names, rootTest}
 
 -- the test from the arrays is the definition's
-pub root-is : (s : List ℤ) (h : Header) (a : ℕ) (types : List ℕ) {f : ℕ → Bool} {named : List Bool} → h .nodes ≤ 1024 → Typed s h types → Names f named → rootTest h a types named ≡ goodRoot s h a (f a)
+pub root-is : (s : List ℤ) (h : Header) (a : ℕ) (types : List ℕ) {f : ℕ → Bool} {named : List Bool} {m : ℕ} → Typed s h types → Names h m f named → rootTest h a types named ≡ goodRoot s h a (f a)
 unfolding goodRoot
-root-is s h a types {f} {named} m t n = go (decLt a (h .nodes))
+root-is s h a types {f} {named} t n = go (decLt a (h .nodes))
   where
     go : Dec (a < h .nodes) → (ltb a (h .nodes) && eqb (getD types a 0) 0 && not (getD named a false)) ≡ (ltb a (h .nodes) && eqb (typeOf s h a) 0 && not (f a))
-    go (yes l) = rw (t a l, n .is a (omega arith))
+    go (yes l) = rw (t a l, n .is a (omega (arith, n .room)))
     go (no x) = rw (le-ltb a (h .nodes) (omega arith))
 
 -- one more named node
-pub name-more : {f g : ℕ → Bool} {named v : List Bool} (on : Bool) (i : ℕ) → Names f named → v ≡ marked on i named → ((a : ℕ) → (f a || (on && eqb i a)) ≡ g a) → Names g v
-name-more {f} {g} {named} on i n e h =
-    rw e (record { long = length-marked on i named ∙ n .long; is = λ a l. marked-flags f on i named (λ b q. n .is b (omega (arith, n .long))) a (omega (arith, n .long)) ∙ h a })
+pub name-more : {h : Header} {m : ℕ} {f g : ℕ → Bool} {named v : List Bool} (on : Bool) (i : ℕ) → Names h m f named → v ≡ marked on i named → ((a : ℕ) → (f a || (on && eqb i a)) ≡ g a) → Names h m g v
+name-more {f = f} {g} {named} on i n e q =
+    rw e (record { room = n .room; long = length-marked on i named ∙ n .long; is = λ a l. marked-flags f on i named (λ b l. n .is b (omega (arith, n .long))) a (omega (arith, n .long)) ∙ q a })
 
 -- the same flags under another name
-pub renamed : {f g : ℕ → Bool} {named : List Bool} → Names f named → ((a : ℕ) → f a ≡ g a) → Names g named
-renamed n h = record { long = n .long; is = λ a l. n .is a l ∙ h a }
+pub renamed : {h : Header} {m : ℕ} {f g : ℕ → Bool} {named : List Bool} → Names h m f named → ((a : ℕ) → f a ≡ g a) → Names h m g named
+renamed n q = record { room = n .room; long = n .long; is = λ a l. n .is a l ∙ q a }
 
-pub kept : {f g : ℕ → Bool} {t u : List Bool} → Names f t → Names g u → length t ≡ length u
+pub kept : {h : Header} {m : ℕ} {f g : ℕ → Bool} {t u : List Bool} → Names h m f t → Names h m g u → length t ≡ length u
 kept a b = a .long ∙ sym (b .long)

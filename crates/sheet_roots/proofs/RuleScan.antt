@@ -27,12 +27,12 @@ use Rattle.sheet_roots.specs.Roots.{Known, Names, NamedByNodes, rootTest
 use Rattle.sheet_roots.proofs.Roots.{root-is, name-more, renamed}
 use Rattle.sheet_roots.proofs.Cites.{cites-is, rising}
 
-pub record Turn (s : List ℤ) (h : Header) (k : ℕ) (named : List Bool) : Type 0 where
+pub record Turn (s : List ℤ) (h : Header) (room k : ℕ) (named : List Bool) : Type 0 where
   pub here : k ≤ h .rules
-  pub names : Names (namedByRules s h k) named
+  pub names : Names h room (namedByRules s h k) named
   pub good : (j : ℕ) → j < k → goodRule s h j ≡ true
 
-pub begin : (s : List ℤ) (h : Header) (named : List Bool) → Names (NamedByNodes s h) named → Turn s h 0 named
+pub begin : (s : List ℤ) (h : Header) {room : ℕ} (named : List Bool) → Names h room (NamedByNodes s h) named → Turn s h room 0 named
 unfolding namedByRules
 begin s h named n =
     record { here = omega arith; names = renamed n (λ a. sym (ap (λ t. NamedByNodes s h a || t) (any-zero (λ j. eqb (rule s h j .w1) a)) ∙ or-false (NamedByNodes s h a))); good = λ j l. absurd (omega arith) }
@@ -46,7 +46,7 @@ chain : (a b c d e e′ : Bool) → (c ≡ true → e ≡ e′) → (a && b && c
 chain a b true d e e′ f = rw (f refl)
 chain a b false d e e′ f = rw (and-no (a && b))
 
-module _ (s : List ℤ) (h : Header) (k : ℕ) {types tops : List ℕ} {named : List Bool} (few : h .nodes ≤ 1024) (known : Known s h types tops) (w : Turn s h k named) (l : k < h .rules)
+module _ (s : List ℤ) (h : Header) (k : ℕ) {types tops : List ℕ} {named : List Bool} {room : ℕ} (known : Known s h types tops) (w : Turn s h room k named) (l : k < h .rules)
     {base : ℕ} {r : Record} {rooted risen u cites : Bool} {top : ℕ}
     (eb : base ≡ firstRule h) (er : r ≡ recordAt s (base + k)) (eo : rooted ≡ rootTest h (r .w1) types named) (et : top ≡ getD tops (r .w1) 0)
     (ec : cites ≡ topLower s h k (r .w0) top) (ei : risen ≡ (eqb k 0 || leb (stratum s h (k - 1)) (r .w0))) (eu : u ≡ unused 2 r) where
@@ -54,7 +54,7 @@ module _ (s : List ℤ) (h : Header) (k : ℕ) {types tops : List ℕ} {named : 
   is = er ∙ rw eb
 
   root-of : rooted ≡ goodRoot s h (rule s h k .w1) (namedByRules s h k (rule s h k .w1))
-  root-of = eo ∙ root-is s h (r .w1) types few (known .type) (w .names) ∙ rw is
+  root-of = eo ∙ root-is s h (r .w1) types (known .type) (w .names) ∙ rw is
 
   inside : goodRoot s h (rule s h k .w1) (namedByRules s h k (rule s h k .w1)) ≡ true → rule s h k .w1 < h .nodes
   unfolding goodRoot
@@ -70,7 +70,7 @@ module _ (s : List ℤ) (h : Header) (k : ℕ) {types tops : List ℕ} {named : 
       rw (ei, root-of, eu, is)
       (chain (leb (stratum s h k) 15) (eqb k 0 || leb (stratum s h (k - 1)) (stratum s h k)) (goodRoot s h (rule s h k .w1) (namedByRules s h k (rule s h k .w1))) (unused 2 (rule s h k)) cites (citesLower s h k (rule s h k .w1)) cites-of)
 
-  pub again : {v : List Bool} → (leb (r .w0) 15 && risen && rooted && u && cites) ≡ true → v ≡ marked true (r .w1) named → Turn s h (k + 1) v
+  pub again : {v : List Bool} → (leb (r .w0) 15 && risen && rooted && u && cites) ≡ true → v ≡ marked true (r .w1) named → Turn s h room (k + 1) v
   again p e =
       record {
         here = omega arith;
@@ -81,6 +81,6 @@ module _ (s : List ℤ) (h : Header) (k : ℕ) {types tops : List ℕ} {named : 
   pub stop : (leb (r .w0) 15 && risen && rooted && u && cites) ≡ false → k ≡ firstFail (goodRule s h) 0 (h .rules)
   stop p = fail-at (goodRule s h) (h .rules) k l (w .good) (sym test ∙ p)
 
-pub finish : (s : List ℤ) (h : Header) (k : ℕ) {named : List Bool} → Turn s h k named → h .rules ≤ k → (k ≡ firstFail (goodRule s h) 0 (h .rules)) × (h .rules ≤ k → Names (namedByRules s h (h .rules)) named)
-finish s h k {named} w l =
-    (fail-none (goodRule s h) (h .rules) k (w .here) l (w .good), λ _. subst (λ (n : ℕ). Names (namedByRules s h n) named) (omega (arith, w .here)) (w .names))
+pub finish : (s : List ℤ) (h : Header) (k : ℕ) {named : List Bool} {room : ℕ} → Turn s h room k named → h .rules ≤ k → (k ≡ firstFail (goodRule s h) 0 (h .rules)) × (h .rules ≤ k → Names h room (namedByRules s h (h .rules)) named)
+finish s h k {named} {room} w l =
+    (fail-none (goodRule s h) (h .rules) k (w .here) l (w .good), λ _. subst (λ (n : ℕ). Names h room (namedByRules s h n) named) (omega (arith, w .here)) (w .names))

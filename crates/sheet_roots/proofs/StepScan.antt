@@ -25,16 +25,16 @@ use Rattle.records.specs.Flows.{goodStep, goodBranchStep}
 use Rattle.sheet_roots.specs.Roots.{Typed, Names, rootTest, kindTest}
 use Rattle.sheet_roots.proofs.Roots.{root-is, name-more, renamed}
 
-pub record Turn (s : List ℤ) (h : Header) (k sum : ℕ) (named : List Bool) : Type 0 where
+pub record Turn (s : List ℤ) (h : Header) (room k sum : ℕ) (named : List Bool) : Type 0 where
   pub here : k ≤ h .steps
   pub is : sum ≡ sumBelow (routeCount s h) k
-  pub names : Names (namedBySteps s h k) named
+  pub names : Names h room (namedBySteps s h k) named
   pub good : (j : ℕ) → j < k → goodStep s h j ≡ true
 
 abbrev named-by : List ℤ → Header → ℕ → ℕ → Bool
 named-by s h a j = eqb (step s h j .w0) 1 && eqb (step s h j .w1) a
 
-pub begin : (s : List ℤ) (h : Header) (named : List Bool) → Names (namedByOperations s h (h .operations)) named → Turn s h 0 0 named
+pub begin : (s : List ℤ) (h : Header) {room : ℕ} (named : List Bool) → Names h room (namedByOperations s h (h .operations)) named → Turn s h room 0 0 named
 unfolding namedBySteps
 begin s h named n =
     record {
@@ -53,7 +53,7 @@ count-of : (s : List ℤ) (h : Header) (k : ℕ) → step s h k .w4 ≡ routeCou
 unfolding recordAt
 count-of s h k = refl
 
-module _ (s : List ℤ) (h : Header) (k sum : ℕ) (types : List ℕ) {named : List Bool} (few : h .nodes ≤ 1024) (typed : Typed s h types) (w : Turn s h k sum named) (l : k < h .steps)
+module _ (s : List ℤ) (h : Header) (k sum : ℕ) (types : List ℕ) {named : List Bool} {room : ℕ} (typed : Typed s h types) (w : Turn s h room k sum named) (l : k < h .steps)
     {base : ℕ} {r : Record} (eb : base ≡ firstStep h) (er : r ≡ recordAt s (base + k)) where
   is : r ≡ step s h k
   is = er ∙ rw eb
@@ -64,9 +64,9 @@ module _ (s : List ℤ) (h : Header) (k sum : ℕ) (types : List ℕ) {named : L
   module _ {rooted m u : Bool} (eo : rooted ≡ rootTest h (r .w1) types named) (em : m ≡ kindTest s h r rooted) (eu : u ≡ unused 5 r) where
     test : (m && eqb (r .w3) sum && u) ≡ goodStep s h k
     unfolding goodStep goodBranchStep
-    test = rw (em, eo ∙ root-is s h (r .w1) types few typed (w .names), eu, is, w .is)
+    test = rw (em, eo ∙ root-is s h (r .w1) types typed (w .names), eu, is, w .is)
 
-    pub again : {v : List Bool} → (m && eqb (r .w3) sum && u) ≡ true → v ≡ marked (eqb (r .w0) 1) (r .w1) named → Turn s h (k + 1) (sum + r .w4) v
+    pub again : {v : List Bool} → (m && eqb (r .w3) sum && u) ≡ true → v ≡ marked (eqb (r .w0) 1) (r .w1) named → Turn s h room (k + 1) (sum + r .w4) v
     again p e =
         record {
           here = omega arith;
@@ -78,5 +78,5 @@ module _ (s : List ℤ) (h : Header) (k sum : ℕ) (types : List ℕ) {named : L
     pub stop : (m && eqb (r .w3) sum && u) ≡ false → k ≡ firstFail (goodStep s h) 0 (h .steps)
     stop p = fail-at (goodStep s h) (h .steps) k l (w .good) (sym test ∙ p)
 
-pub finish : (s : List ℤ) (h : Header) (k sum : ℕ) {named : List Bool} → Turn s h k sum named → h .steps ≤ k → k ≡ firstFail (goodStep s h) 0 (h .steps)
+pub finish : (s : List ℤ) (h : Header) (k sum : ℕ) {named : List Bool} {room : ℕ} → Turn s h room k sum named → h .steps ≤ k → k ≡ firstFail (goodStep s h) 0 (h .steps)
 finish s h k sum w l = fail-none (goodStep s h) (h .steps) k (w .here) l (w .good)

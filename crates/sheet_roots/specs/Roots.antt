@@ -3,7 +3,7 @@
 use mathlib.Core.Path.{_≡_}
 use mathlib.Core.Bool.{Bool, true, false, not, cond, _&&_, _||_}
 use mathlib.Core.List.{List}
-use Prim.Native.Nat.{ℕ, _-_, _<_}
+use Prim.Native.Nat.{ℕ, _-_, _≤_, _<_}
 use lib.IntN.{ℤ}
 use lib.Dec.{leb, ltb, eqb}
 use lib.ListN.{length, getD}
@@ -24,10 +24,11 @@ pub record Known (s : List ℤ) (h : Header) (types tops : List ℕ) : Type 0 wh
   pub top : (j : ℕ) → j < h .nodes → getD tops j 0 ≡ topOf s h j
   pub good : (j : ℕ) → j < h .nodes → goodNode s h j ≡ true
 
--- the flags say which nodes are named
-pub record Names (f : ℕ → Bool) (named : List Bool) : Type 0 where
-  pub long : length named ≡ 1024
-  pub is : (a : ℕ) → a < 1024 → getD named a false ≡ f a
+-- the flags, m of them and enough for the nodes, say which nodes are named
+pub record Names (h : Header) (m : ℕ) (f : ℕ → Bool) (named : List Bool) : Type 0 where
+  pub room : h .nodes ≤ m
+  pub long : length named ≡ m
+  pub is : (a : ℕ) → a < m → getD named a false ≡ f a
 
 abbrev pub NamedByNodes : List ℤ → Header → ℕ → Bool
 NamedByNodes s h a = namedByNodes s h (h .nodes) a

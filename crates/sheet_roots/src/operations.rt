@@ -2,6 +2,7 @@
 ghost use mathlib.Core.Path.{_≡_};
 ghost use mathlib.Core.Bool.{true};
 ghost use Prim.Native.Nat.{_≤_};
+ghost use lib.ListN.{length};
 ghost use Rattle.tables.specs.Scan.{firstFail};
 ghost use Rattle.layout.specs.Sized.{Sized};
 ghost use Rattle.layout.specs.Groups.{goodGroups};
@@ -16,9 +17,9 @@ use words::record_at;
 use words::unused;
 
 pub fn check_operations(s: &[i64], h: Header, types: &[usize], named: &mut [bool]) -> usize
-    requires { ⌜ Sized (now s) h × (goodGroups (now s) h ≡ true) × Typed (now s) h (now types) × Names (namedByRules (now s) h (h .rules)) (now named) ⌝ }
+    requires { ⌜ Sized (now s) h × (goodGroups (now s) h ≡ true) × Typed (now s) h (now types) × Names h (length (now named)) (namedByRules (now s) h (h .rules)) (now named) ⌝ }
     ensures { λ k. ⌜ k ≡ firstFail (goodOperation (now (s .entry)) h) 0 (h .operations) ⌝ }
-    ensures { λ k. ⌜ (h .operations ≤ k → Names (namedByOperations (now (s .entry)) h (h .operations)) (now (named .exit))) ⌝ }
+    ensures { λ k. ⌜ (h .operations ≤ k → Names h (length (now (named .entry))) (namedByOperations (now (s .entry)) h (h .operations)) (now (named .exit))) ⌝ }
 {
     let n = h.operations;
     let mut sum = 0;

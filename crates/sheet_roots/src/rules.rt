@@ -3,6 +3,7 @@ ghost use mathlib.Core.Path.{_≡_};
 ghost use mathlib.Core.Bool.{true, _&&_, _||_};
 ghost use Prim.Native.Nat.{ℕ, _+_, _-_, _<_, _≤_};
 ghost use lib.Dec.{eqb, leb};
+ghost use lib.ListN.{length};
 ghost use Rattle.tables.specs.Scan.{firstFail};
 ghost use Rattle.layout.specs.Sized.{Sized};
 ghost use Rattle.records.specs.Rules.{goodRule, stratum};
@@ -50,9 +51,9 @@ pub fn check_rules(
     tops: &[usize],
     named: &mut [bool],
 ) -> usize
-    requires { ⌜ Sized (now s) h × Known (now s) h (now types) (now tops) × Names (NamedByNodes (now s) h) (now named) ⌝ }
+    requires { ⌜ Sized (now s) h × Known (now s) h (now types) (now tops) × Names h (length (now named)) (NamedByNodes (now s) h) (now named) ⌝ }
     ensures { λ k. ⌜ k ≡ firstFail (goodRule (now (s .entry)) h) 0 (h .rules) ⌝ }
-    ensures { λ k. ⌜ (h .rules ≤ k → Names (namedByRules (now (s .entry)) h (h .rules)) (now (named .exit))) ⌝ }
+    ensures { λ k. ⌜ (h .rules ≤ k → Names h (length (now (named .entry))) (namedByRules (now (s .entry)) h (h .rules)) (now (named .exit))) ⌝ }
 {
     let n = h.rules;
     let mut k = 0;

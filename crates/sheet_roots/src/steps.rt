@@ -2,6 +2,7 @@
 ghost use mathlib.Core.Path.{_≡_};
 ghost use mathlib.Core.Bool.{true};
 ghost use Prim.Native.Nat.{ℕ, _<_, _≤_};
+ghost use lib.ListN.{length};
 ghost use Rattle.tables.specs.Scan.{firstFail};
 ghost use Rattle.layout.specs.Sized.{Sized};
 ghost use Rattle.layout.specs.Groups.{goodGroups};
@@ -31,7 +32,7 @@ fn good_kind(s: &[i64], h: Header, r: Record, rooted: bool) -> bool
 }
 
 pub fn check_steps(s: &[i64], h: Header, types: &[usize], named: &mut [bool]) -> usize
-    requires { ⌜ Sized (now s) h × (goodGroups (now s) h ≡ true) × Typed (now s) h (now types) × ((k : ℕ) → k < h .operations → goodOperation (now s) h k ≡ true) × Names (namedByOperations (now s) h (h .operations)) (now named) ⌝ }
+    requires { ⌜ Sized (now s) h × (goodGroups (now s) h ≡ true) × Typed (now s) h (now types) × ((k : ℕ) → k < h .operations → goodOperation (now s) h k ≡ true) × Names h (length (now named)) (namedByOperations (now s) h (h .operations)) (now named) ⌝ }
     ensures { λ k. ⌜ k ≡ firstFail (goodStep (now (s .entry)) h) 0 (h .steps) ⌝ }
 {
     let n = h.steps;

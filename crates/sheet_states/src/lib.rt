@@ -9,7 +9,7 @@ ghost use Rattle.words.specs.declared.Record.{Record};
 ghost use Rattle.layout.specs.Sized.{Sized};
 ghost use Rattle.layout.specs.Tables.{entity};
 ghost use Rattle.records.specs.Entities.{goodEntity, goodTransition};
-ghost use Rattle.sheet_states.specs.Flags.{placeOf, Small, Declared};
+ghost use Rattle.sheet_states.specs.Flags.{placeOf, Declared};
 use layout::Header;
 use records::good_change;
 use records::good_entity;
@@ -36,16 +36,16 @@ pub fn check_entities(s: &[i64], h: Header) -> usize
 
 // The flag of a record's entity, from and to.
 pub fn place_of(r: Record) -> usize
-    requires { ⌜ Small r ⌝ }
+    requires { ⌜ (r .w0 < 32) × (r .w1 < 16) × (r .w2 < 16) ⌝ }
     ensures { λ i. ⌜ i ≡ placeOf r ⌝ }
 {
     256 * r.w0 + 16 * r.w1 + r.w2
 }
 
 pub fn check_transitions(s: &[i64], h: Header, declared: &mut [bool]) -> usize
-    requires { ⌜ Sized (now s) h × ((k : ℕ) → k < h .entities → goodEntity (entity (now s) h k) ≡ true) × (now declared ≡ replicate 8192 false) ⌝ }
+    requires { ⌜ Sized (now s) h × ((k : ℕ) → k < h .entities → goodEntity (entity (now s) h k) ≡ true) × (256 * h .entities ≤ length (now declared)) × (now declared ≡ replicate (length (now declared)) false) ⌝ }
     ensures { λ k. ⌜ k ≡ firstFail (goodTransition (now (s .entry)) h) 0 (h .transitions) ⌝ }
-    ensures { λ k. ⌜ (h .transitions ≤ k → Declared (now (s .entry)) h (h .transitions) (now (declared .exit))) ⌝ }
+    ensures { λ k. ⌜ (h .transitions ≤ k → Declared (now (s .entry)) h (length (now (declared .entry))) (h .transitions) (now (declared .exit))) ⌝ }
 {
     let base = h.first_transition();
     let n = h.transitions;

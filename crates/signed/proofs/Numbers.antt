@@ -1,16 +1,16 @@
 -- The natural number that a word is: bounds and equality of the word are those of its number. Assumes nothing.
 use mathlib.Core.Path.{_≡_, refl, sym, ap, _∙_}
 use mathlib.Core.Bool.{Bool, true, false, _&&_, true≢false}
-use Prim.Native.Nat.{ℕ, _^_, _≤_, _<_}
+use Prim.Native.Nat.{ℕ, zero, suc, _+_, _-_, _^_, _≤_, _<_}
 use native.Mathlib.Omega.{arith}
 use lib.Dec.{T, leb, eqb}
-use lib.IntN.{ℤ, pos, negsuc, natAbs}
+use lib.IntN.{ℤ, pos, negsuc, natAbs, _+ℤ_, _-ℤ_}
 use lib.Signed.{mag, nonNeg, ltZ}
 use mir.Syntax.{w64}
 use mir.Val.{Fits, SFits}
 use borrow.Author.Tests.{lt-leb, ne-eqb}
 use Rattle.signed.specs.Words.{eqZ, within, num}
-use Rattle.signed.proofs.Parts.{Le, Lt}
+use Rattle.signed.proofs.Parts.{Le, Lt, lt-true, ext, plus-parts, minus-parts}
 use Rattle.signed.proofs.Bounds.{In}
 
 pub num-of : (n : ℕ) → num (pos n) ≡ n
@@ -26,21 +26,10 @@ num-is (negsuc n) h = absurd (omega arith)
 pub num-pos : (w : ℤ) {n : ℕ} → num w ≡ n → n < 2 ^ 63 → w ≡ pos n
 num-pos w e h = num-is w (omega arith) ∙ ap pos e
 
--- a word's number is at most the limit, below it where the word is not negative, and the limit where it is
-pub num-most : (w : ℤ) → mag w < 2 ^ 63 → num w ≤ 2 ^ 63
+-- a negative word's number is past every limit
+pub num-large : (n : ℕ) → 2 ^ 63 ≤ num (negsuc n)
 unfolding num
-num-most (pos n) h = omega arith
-num-most (negsuc n) h = omega arith
-
-pub num-less : {w : ℤ} → mag w < 2 ^ 63 → Le (pos 0) w → num w < 2 ^ 63
-unfolding num
-num-less {w = pos n} h z = h
-num-less {w = negsuc n} h z = omega arith
-
-pub num-neg : {w : ℤ} → Lt w (pos 0) → num w ≡ 2 ^ 63
-unfolding num
-num-neg {w = pos n} h = omega arith
-num-neg {w = negsuc n} h = refl
+num-large n = omega arith
 
 -- bounds of a word are bounds of its number
 pub num-in : {a w b : ℕ} → a ≤ w → w ≤ b → In (pos a) (pos w) (pos b)
@@ -64,14 +53,14 @@ and-false false = refl
 pub within-num : (a : ℕ) (w : ℤ) (b : ℕ) → b < 2 ^ 63 → within (pos a) w (pos b) ≡ leb a (num w) && leb (num w) b
 unfolding within num
 within-num a (pos n) b h = refl
-within-num a (negsuc n) b h = rw (lt-leb (2 ^ 63) b h, and-false (leb a (2 ^ 63)))
+within-num a (negsuc n) b h = rw (lt-leb (num (negsuc n)) b (omega (arith, num-large n)), and-false (leb a (num (negsuc n))))
 
 pub same-num : (w : ℤ) (n : ℕ) → n < 2 ^ 63 → eqZ w (pos n) ≡ eqb (num w) n
 unfolding eqZ num
 same-num (pos m) n h = refl
-same-num (negsuc m) n h = sym (ne-eqb (2 ^ 63) n (λ e. omega arith))
+same-num (negsuc m) n h = sym (ne-eqb (num (negsuc m)) n (λ e. omega (arith, num-large m)))
 
--- ---- the cast that reads the number, and the number it reads
+-- ---- the casts that read the number, and the number they read
 
 pub cast-fits : (w : ℤ) → SFits w64 w → ltZ w (pos 0) ≡ false → T (nonNeg w) × Fits w64 (natAbs w)
 cast-fits (pos n) f e = (tt, omega arith)
@@ -81,3 +70,32 @@ pub cast-num : (w : ℤ) → ltZ w (pos 0) ≡ false → natAbs w ≡ num w
 unfolding num
 cast-num (pos n) e = refl
 cast-num (negsuc n) e = absurd (true≢false e)
+
+-- of a negative word w, −(w + 1) is not negative, and the largest number less it is the word's number
+next-fits : (n : ℕ) → SFits w64 (negsuc n) → SFits w64 (negsuc n +ℤ pos 1)
+next-fits zero f = record { sfits = omega arith }
+next-fits (suc n) f =
+    rw (ext (negsuc (suc n) +ℤ pos 1) (negsuc n) (omega (arith, plus-parts (negsuc (suc n)) (pos 1)))) (record { sfits = omega (arith, f .sfits) })
+
+turned-is : (n : ℕ) → pos 0 -ℤ (negsuc n +ℤ pos 1) ≡ pos n
+turned-is n = ext (pos 0 -ℤ (negsuc n +ℤ pos 1)) (pos n) (omega (arith, minus-parts (pos 0) (negsuc n +ℤ pos 1), plus-parts (negsuc n) (pos 1)))
+
+-- w is negative, and its bits read without a sign come out by the three steps
+pub record Turned (w : ℤ) : Type 0 where
+  pub next : SFits w64 (w +ℤ pos 1)
+  pub turned : SFits w64 (pos 0 -ℤ (w +ℤ pos 1))
+  pub cast : T (nonNeg (pos 0 -ℤ (w +ℤ pos 1))) × Fits w64 (natAbs (pos 0 -ℤ (w +ℤ pos 1)))
+  pub below : natAbs (pos 0 -ℤ (w +ℤ pos 1)) ≤ 2 ^ 64 - 1
+  pub is : 2 ^ 64 - 1 - natAbs (pos 0 -ℤ (w +ℤ pos 1)) ≡ num w
+
+pub turned : (w : ℤ) → SFits w64 w → ltZ w (pos 0) ≡ true → Turned w
+unfolding num
+turned (pos n) f e = absurd (omega (arith, lt-true (pos n) (pos 0) e .lt))
+turned (negsuc n) f e =
+    record {
+      next = next-fits n f;
+      turned = rw (turned-is n) (record { sfits = omega (arith, f .sfits) });
+      cast = rw (turned-is n) (tt, omega (arith, f .sfits));
+      below = rw (turned-is n) (omega (arith, f .sfits));
+      is = rw (turned-is n) (omega (arith, f .sfits));
+    }

@@ -1,6 +1,6 @@
 -- Tests, bounds and numbers of signed words, as integers. Assumes nothing.
 use mathlib.Core.Bool.{Bool, false, _&&_, cond}
-use Prim.Native.Nat.{ℕ, _^_}
+use Prim.Native.Nat.{ℕ, _+_, _-_, _^_}
 use lib.Dec.{eqb}
 use lib.IntN.{ℤ, pos, negsuc, negℤ}
 use lib.Signed.{leZ}
@@ -24,10 +24,10 @@ big = 1_000_000_000
 unfoldable pub bounded : ℤ → Bool
 bounded x = within (negℤ (pos big)) x (pos big)
 
--- the natural number that a word is; a negative word is a number past every limit
+-- the natural number that a word is; a negative word is a number past every limit, 2^63 or more: its 64 bits read without a sign
 unfoldable pub num : ℤ → ℕ
 num (pos n) = n
-num (negsuc n) = 2 ^ 63
+num (negsuc n) = 2 ^ 63 + (2 ^ 63 - 1 - n)
 
 -- the smaller of two integers
 unfoldable pub minZ : ℤ → ℤ → ℤ

@@ -39,12 +39,13 @@ pub fn bounded(x: i64) -> bool
     within(-1_000_000_000, x, 1_000_000_000)
 }
 
-// The natural number that a word is; a negative word is a number past every limit.
+// The natural number that a word is; a negative word is a number past every limit. It is the number of the word's bits without a sign, so
+// that the compiled code has nothing to do.
 pub fn num(w: i64) -> usize
     ensures { λ r. ⌜ r ≡ num w ⌝ }
 {
     if w < 0 {
-        9_223_372_036_854_775_808
+        18_446_744_073_709_551_615 - (-(w + 1)) as usize
     } else {
         w as usize
     }

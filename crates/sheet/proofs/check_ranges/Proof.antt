@@ -1,6 +1,6 @@
 -- `sheet::check_ranges` meets its contract. Assumes nothing.
 use Rattle.answer.proofs.Distinct.{refused-done}
-use Rattle.sheet.proofs.Parts.{sized-of, answer-bad, answer-done}
+use Rattle.sheet.proofs.Parts.{zeros-of, sized-of, answer-bad, answer-done}
 use Rattle.records.proofs.Acceptance.{bad-header, bad-group}
 use Rattle.layout.proofs.Limits.{sixteen}
 use mathlib.Core.Path.{sym, _∙_}
@@ -19,7 +19,7 @@ good-groups-requires : tie.Need-good-groups-requires
 good-groups-requires c κs = sized-of _ (c .read .ensures) (sym (c .before .before .good-header .ensures) ∙ c .before .if1 .taken)
 
 first-bad-requires : tie.Need-first-bad-requires
-first-bad-requires c κs = (sized-of _ (c .before .before .before .before .read .ensures) (sym (c .before .before .before .before .before .before .good-header .ensures) ∙ c .before .before .before .before .before .if1 .taken), (sym (c .before .before .before .good-groups .ensures) ∙ c .before .before .if2 .taken), c .before .before .before .before .before .before .before .pre .0, c .before .before .before .before .before .before .before .pre .1)
+first-bad-requires c κs = (sized-of _ (c .before .before .before .before .read .ensures) (sym (c .before .before .before .before .before .before .good-header .ensures) ∙ c .before .before .before .before .before .if1 .taken), (sym (c .before .before .before .good-groups .ensures) ∙ c .before .before .if2 .taken), zeros-of (c .before .before .before .before .before .before .before .pre .0) (c .before .before .before .before .before .before .before .pre .1) (c .before .before .before .before .before .before .before .pre .2) (c .before .before .before .before .read .ensures) (sym (c .before .before .before .before .before .before .good-header .ensures) ∙ c .before .before .before .before .before .if1 .taken))
 
 records-requires : tie.Need-records-requires
 records-requires c κs = sized-of _ (c .before .before .before .before .before .before .before .read .ensures) (sym (c .before .before .before .before .before .before .before .before .before .good-header .ensures) ∙ c .before .before .before .before .before .before .before .before .if1 .taken) .limits

@@ -1,6 +1,6 @@
 -- `sheet::upper` meets its contract. Assumes nothing.
 use Rattle.sheet.specs.Parts.{upperTables}
-use Rattle.sheet.proofs.Parts.{stop-here, pass, last-one, passed, at-most, ranges-of, known-of, names-of}
+use Rattle.sheet.proofs.Parts.{stop-here, pass, last-one, passed, at-most, ranges-of, known-of, own-names, names-of}
 use mathlib.Core.Path.{subst}
 use Rattle.records.proofs.Chain.{First}
 use Prim.Native.Nat.{ℕ, _+_}
@@ -66,7 +66,7 @@ same-length-10 c = search needs
 returns-3 : tie.Need-returns-3
 returns-3 c = (
   subst (λ (n : ℕ). First (upperTables (c .before .before .before .before .before .before .before .before .before .before .before .before .before .before .before .before .before .before .before .before .before .before .before .before .before .before .before .before .before .args .s .now) (c .before .before .before .before .before .before .before .before .before .before .before .before .before .before .before .before .before .before .before .before .before .before .before .before .before .before .before .before .before .args .h)) n) (omega (arith, c .first-rule .ensures)) (pass _ _ (c .before .before .before .before .before .before .before .before .before .before .before .before .before .before .before .before .before .before .before .before .before .before .before .before .before .check-facts .ensures) (c .before .before .before .before .before .before .before .before .before .before .before .before .before .before .before .before .before .before .before .before .before .before .before .if1 .left) (pass _ _ (c .before .before .before .before .before .before .before .before .before .before .before .before .before .before .before .before .before .check-nodes .ensures .0) (c .before .before .before .before .before .before .before .if2 .left) (last-one _ (c .before .before .before .check-rules .ensures .0)))),
-  λ l. record { ranges = ranges-of (c .before .before .before .before .before .before .before .before .before .before .before .before .before .before .before .before .before .check-nodes .ensures .1 (c .before .before .before .before .before .before .before .if2 .left)); typed = (c .before .before .before .before .before .before .before .before .before .before .before .before .before .before .before .before .before .check-nodes .ensures .1 (c .before .before .before .before .before .before .before .if2 .left)) .type; names = c .before .before .before .check-rules .ensures .1 (omega (arith, l, c .first-rule .ensures)) },
+  λ l. record { ranges = ranges-of (c .before .before .before .before .before .before .before .before .before .before .before .before .before .before .before .before .before .check-nodes .ensures .1 (c .before .before .before .before .before .before .before .if2 .left)); typed = (c .before .before .before .before .before .before .before .before .before .before .before .before .before .before .before .before .before .check-nodes .ensures .1 (c .before .before .before .before .before .before .before .if2 .left)) .type; names = own-names (c .before .before .before .check-rules .ensures .1 (omega (arith, l, c .first-rule .ensures))) },
 )
 
 pub upper-spec : {M : Type 1} → statement M

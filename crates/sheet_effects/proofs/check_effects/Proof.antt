@@ -1,14 +1,15 @@
 -- `sheet_effects::check_effects` meets its contract. Assumes nothing.
 use mathlib.Core.Path.{sym}
-use Rattle.sheet_effects.proofs.Scan.{Walk, set-out, group, end-inside, onward, found, arrived}
+use Rattle.sheet_effects.proofs.Scan.{Walk, set-out, group, lent, end-inside, onward, found, arrived}
 use native.Mathlib.Omega.{arith}
+use lib.ListN.{length}
 use Prim.Native.Nat.{_-_}
 use borrow.Author.Needs.{needs}
 use Rattle.sheet_effects.proofs.check_effects.Statement.{statement}
 use Rattle.sheet_effects.proofs.check_effects.Tie as tie
 
 abbrev Inv-loop : tie.InvT-loop
-Inv-loop s h declared seen₀ base n first₀ o₀ seen first o = Walk s h o first seen
+Inv-loop s h declared seen₀ base n first₀ o₀ seen first o = Walk s h (length seen₀) o first seen
 
 abbrev μ-loop : tie.MeasureT-loop
 μ-loop s h declared seen₀ base n first₀ o₀ seen first o = n - o
@@ -17,31 +18,35 @@ first-operation-requires : tie.Need-first-operation-requires Inv-loop μ-loop
 first-operation-requires c κs = search needs
 
 loop-holds : tie.Need-loop-holds Inv-loop μ-loop
-loop-holds c = set-out _ _
+loop-holds c = set-out _ _ _ _ (c .before .before .before .pre .1) (c .before .before .before .pre .2)
 
 add-number : tie.Need-add-number Inv-loop μ-loop
-add-number c = omega (arith, c .before .before .before .before .pre .sized .limits, c .before .before .before .before .pre .sized .long, c .before .before .first-operation .ensures)
+add-number c = omega (arith, c .before .before .before .before .before .pre .0 .sized .limits, c .before .before .before .before .before .pre .0 .sized .long, c .before .before .first-operation .ensures)
 
 number-requires : tie.Need-number-requires Inv-loop μ-loop
-number-requires c κs = (omega arith, omega (arith, c .before .before .before .before .pre .sized .limits, c .before .before .before .before .pre .sized .long, c .before .before .first-operation .ensures))
+number-requires c κs = (omega arith, omega (arith, c .before .before .before .before .before .pre .0 .sized .limits, c .before .before .before .before .before .pre .0 .sized .long, c .before .before .first-operation .ensures))
 
 add-end : tie.Need-add-end Inv-loop μ-loop
-add-end c = omega (arith, end-inside _ _ _ _ _ _ (c .before .before .before .before .before .pre) (c .before .before .loop .inv) (c .before .loop-test .taken) (c .before .before .before .first-operation .ensures) (c .number .ensures), c .before .before .before .before .before .pre .sized .limits .effects)
+add-end c = omega (arith, end-inside _ _ _ _ _ _ (c .before .before .before .before .before .before .pre .0) (c .before .before .loop .inv) (c .before .loop-test .taken) (c .before .before .before .first-operation .ensures) (c .number .ensures), c .before .before .before .before .before .before .pre .0 .sized .limits .effects)
 
 add-number-2 : tie.Need-add-number-2 Inv-loop μ-loop
-add-number-2 c = omega (arith, c .before .before .before .before .before .pre .sized .limits, c .before .before .before .before .before .pre .sized .long, c .before .before .before .first-operation .ensures)
+add-number-2 c = omega (arith, c .before .before .before .before .before .before .pre .0 .sized .limits, c .before .before .before .before .before .before .pre .0 .sized .long, c .before .before .before .first-operation .ensures)
 
 number-requires-2 : tie.Need-number-requires-2 Inv-loop μ-loop
-number-requires-2 c κs = (omega arith, omega (arith, c .before .before .before .before .before .pre .sized .limits, c .before .before .before .before .before .pre .sized .long, c .before .before .before .first-operation .ensures))
-
-slice-aggregate-check-group : tie.Need-slice-aggregate-check-group Inv-loop μ-loop
-slice-aggregate-check-group c = sym (c .before .before .before .before .loop .inv .seen .long)
+number-requires-2 c κs = (omega arith, omega (arith, c .before .before .before .before .before .before .pre .0 .sized .limits, c .before .before .before .before .before .before .pre .0 .sized .long, c .before .before .before .first-operation .ensures))
 
 check-group-requires : tie.Need-check-group-requires Inv-loop μ-loop
-check-group-requires c κs = (c .before .before .before .before .before .before .before .pre, group _ _ _ _ _ _ (c .before .before .before .before .before .before .before .pre) (c .before .before .before .before .loop .inv) (c .before .before .before .loop-test .taken) (c .before .before .before .before .before .first-operation .ensures) (c .before .before .number .ensures) (c .before .number2 .ensures), c .before .before .before .before .loop .inv .seen)
+check-group-requires c κs = (
+  c .before .before .before .before .before .before .before .before .pre .0,
+  group _ _ _ _ _ _ (c .before .before .before .before .before .before .before .before .pre .0) (c .before .before .before .before .loop .inv) (c .before .before .before .loop-test .taken) (c .before .before .before .before .before .first-operation .ensures) (c .before .before .number .ensures) (c .before .number2 .ensures),
+  lent _ _ _ _ _ _ (c .before .before .before .before .before .before .before .before .pre .0) (c .before .before .before .before .loop .inv) (c .before .before .before .loop-test .taken) (c .before .before .before .before .before .first-operation .ensures) (c .before .before .number .ensures),
+)
+
+same-length : tie.Need-same-length Inv-loop μ-loop
+same-length c = search needs
 
 returns : tie.Need-returns Inv-loop μ-loop
-returns c = found _ _ _ _ _ _ (c .before .before .before .before .before .before .before .before .before .before .pre) (c .before .before .before .before .before .before .before .loop .inv) (c .before .before .before .before .before .before .loop-test .taken) (c .before .before .before .before .before .before .before .before .first-operation .ensures) (c .before .before .before .before .before .number .ensures) (c .before .before .check-group .ensures) (c .if1 .taken)
+returns c = found _ _ _ _ _ _ (c .before .before .before .before .before .before .before .before .before .before .before .before .pre .0) (c .before .before .before .before .before .before .before .before .loop .inv) (c .before .before .before .before .before .before .before .loop-test .taken) (c .before .before .before .before .before .before .before .before .before .first-operation .ensures) (c .before .before .before .before .before .before .number .ensures) (c .before .before .before .check-group .ensures) (c .if1 .taken)
 
 add-o : tie.Need-add-o Inv-loop μ-loop
 add-o c = search needs
@@ -50,10 +55,13 @@ loop-less : tie.Need-loop-less Inv-loop μ-loop
 loop-less c = search needs
 
 loop-again : tie.Need-loop-again Inv-loop μ-loop
-loop-again c = onward _ _ _ _ _ _ (c .before .before .before .before .before .before .before .before .before .before .pre) (c .before .before .before .before .before .before .before .loop .inv) (c .before .before .before .before .before .before .loop-test .taken) (c .before .before .before .before .before .before .before .before .first-operation .ensures) (c .before .before .before .before .before .number .ensures) (c .before .before .check-group .ensures) (c .if1 .left)
+loop-again c = onward _ _ _ _ _ _ (c .before .before .before .before .before .before .before .before .before .before .before .before .pre .0) (c .before .before .before .before .before .before .before .before .loop .inv) (c .before .before .before .before .before .before .before .loop-test .taken) (c .before .before .before .before .before .before .before .before .before .first-operation .ensures) (c .before .before .before .before .before .before .number .ensures) (c .before .before .before .check-group .ensures) (c .if1 .left)
+
+same-length-2 : tie.Need-same-length-2 Inv-loop μ-loop
+same-length-2 c = c .before .loop .inv .seen .long
 
 returns-2 : tie.Need-returns-2 Inv-loop μ-loop
-returns-2 c = arrived _ _ _ _ _ _ (c .before .before .before .before .pre) (c .before .loop .inv) (c .loop-test .left)
+returns-2 c = arrived _ _ _ _ _ _ (c .before .before .before .before .before .pre .0) (c .before .loop .inv) (c .loop-test .left)
 
 pub check-effects-spec : {M : Type 1} → statement M
 check-effects-spec =
@@ -68,10 +76,11 @@ check-effects-spec =
     add-end
     add-number-2
     number-requires-2
-    slice-aggregate-check-group
     check-group-requires
+    same-length
     returns
     add-o
     loop-less
     loop-again
+    same-length-2
     returns-2)

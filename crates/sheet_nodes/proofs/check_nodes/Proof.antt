@@ -8,13 +8,14 @@ use Rattle.tables.proofs.Bools.{not-flip}
 use borrow.Author.Tests.{not-false}
 use native.Mathlib.Omega.{arith}
 use mathlib.Core.Path.{sym, _∙_}
+use lib.ListN.{length}
 use Prim.Native.Nat.{_-_, _≤_}
 use borrow.Author.Needs.{needs}
 use Rattle.sheet_nodes.proofs.check_nodes.Statement.{statement}
 use Rattle.sheet_nodes.proofs.check_nodes.Tie as tie
 
 abbrev Inv-loop : tie.InvT-loop
-Inv-loop s h lows₀ highs₀ types₀ tops₀ named₀ size n₀ lows highs types tops named n = (n ≤ size) × Filled s h n lows highs types tops named
+Inv-loop s h lows₀ highs₀ types₀ tops₀ named₀ size n₀ lows highs types tops named n = (n ≤ size) × Filled s h (length lows₀) (length types₀) n lows highs types tops named
 
 abbrev μ-loop : tie.MeasureT-loop
 μ-loop s h lows₀ highs₀ types₀ tops₀ named₀ size n₀ lows highs types tops named n = size - n

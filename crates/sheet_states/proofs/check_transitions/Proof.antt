@@ -1,17 +1,18 @@
 -- `sheet_states::check_transitions` meets its contract. Assumes nothing.
 use Rattle.records.specs.Entities.{goodTransition}
 use mathlib.Core.Path.{subst}
-use Rattle.sheet_states.proofs.Flags.{none, kept, small, again, stop}
+use Rattle.sheet_states.proofs.Flags.{none, small, again, stop}
 use Rattle.sheet_states.specs.Flags.{Declared}
 use Rattle.tables.proofs.Scanned.{fail-at, fail-none}
 use native.Mathlib.Omega.{arith}
 use Prim.Native.Nat.{ℕ, _-_, _≤_}
+use lib.ListN.{length}
 use borrow.Author.Needs.{needs}
 use Rattle.sheet_states.proofs.check_transitions.Statement.{statement}
 use Rattle.sheet_states.proofs.check_transitions.Tie as tie
 
 abbrev Inv-loop : tie.InvT-loop
-Inv-loop s h declared₀ base n k₀ declared k = (k ≤ n) × Declared s h k declared
+Inv-loop s h declared₀ base n k₀ declared k = (k ≤ n) × Declared s h (length declared₀) k declared
 
 abbrev μ-loop : tie.MeasureT-loop
 μ-loop s h declared₀ base n k₀ declared k = n - k
@@ -20,7 +21,7 @@ first-transition-requires : tie.Need-first-transition-requires Inv-loop μ-loop
 first-transition-requires c κs = search needs
 
 loop-holds : tie.Need-loop-holds Inv-loop μ-loop
-loop-holds c = (omega arith, none _ _ _ (c .before .before .pre .2))
+loop-holds c = (omega arith, none _ _ _ _ (c .before .before .pre .2) (c .before .before .pre .3))
 
 add-record-at : tie.Need-add-record-at Inv-loop μ-loop
 add-record-at c = search needs
@@ -35,10 +36,10 @@ unused-requires : tie.Need-unused-requires Inv-loop μ-loop
 unused-requires c κs = search needs
 
 place-of-requires : tie.Need-place-of-requires Inv-loop μ-loop
-place-of-requires c κs = (small _ _ _ _ (c .before .before .before .before .before .loop .inv .1) (c .before .before .before .before .before .before .first-transition .ensures) (c .before .before .before .record-at .ensures) (c .before .before .good-change .ensures) (c .before .unused .ensures) (c .before .before .before .before .before .before .before .before .pre .0) (c .before .before .before .before .before .before .before .before .pre .1) (c .if1 .taken))
+place-of-requires c κs = let z = small _ _ _ _ (c .before .before .before .before .before .loop .inv .1) (c .before .before .before .before .before .before .first-transition .ensures) (c .before .before .before .record-at .ensures) (c .before .before .good-change .ensures) (c .before .unused .ensures) (c .before .before .before .before .before .before .before .before .pre .1) (c .if1 .taken) in omega (arith, c .before .before .before .before .before .before .before .before .pre .0 .limits .entities)
 
 slice-write-declared : tie.Need-slice-write-declared Inv-loop μ-loop
-slice-write-declared c = let z = (small _ _ _ _ (c .before .before .before .before .before .before .loop .inv .1) (c .before .before .before .before .before .before .before .first-transition .ensures) (c .before .before .before .before .record-at .ensures) (c .before .before .before .good-change .ensures) (c .before .before .unused .ensures) (c .before .before .before .before .before .before .before .before .before .pre .0) (c .before .before .before .before .before .before .before .before .before .pre .1) (c .before .if1 .taken)) in omega (arith, c .before .before .before .before .before .before .loop .inv .1 .long, c .place-of .ensures)
+slice-write-declared c = let z = (small _ _ _ _ (c .before .before .before .before .before .before .loop .inv .1) (c .before .before .before .before .before .before .before .first-transition .ensures) (c .before .before .before .before .record-at .ensures) (c .before .before .before .good-change .ensures) (c .before .before .unused .ensures) (c .before .before .before .before .before .before .before .before .before .pre .1) (c .before .if1 .taken)) in omega (arith, c .before .before .before .before .before .before .loop .inv .1 .long, c .before .before .before .before .before .before .loop .inv .1 .room, c .place-of .ensures)
 
 add-k : tie.Need-add-k Inv-loop μ-loop
 add-k c = search needs
@@ -47,21 +48,21 @@ loop-less : tie.Need-loop-less Inv-loop μ-loop
 loop-less c = search needs
 
 loop-again : tie.Need-loop-again Inv-loop μ-loop
-loop-again c = (omega arith, again _ _ _ _ (c .before .before .before .before .before .before .loop .inv .1) (c .before .before .before .before .before .before .before .first-transition .ensures) (c .before .before .before .before .record-at .ensures) (c .before .before .before .good-change .ensures) (c .before .before .unused .ensures) (small _ _ _ _ (c .before .before .before .before .before .before .loop .inv .1) (c .before .before .before .before .before .before .before .first-transition .ensures) (c .before .before .before .before .record-at .ensures) (c .before .before .before .good-change .ensures) (c .before .before .unused .ensures) (c .before .before .before .before .before .before .before .before .before .pre .0) (c .before .before .before .before .before .before .before .before .before .pre .1) (c .before .if1 .taken)) (c .before .if1 .taken) (c .place-of .ensures))
+loop-again c = (omega arith, again _ _ _ _ (c .before .before .before .before .before .before .loop .inv .1) (c .before .before .before .before .before .before .before .first-transition .ensures) (c .before .before .before .before .record-at .ensures) (c .before .before .before .good-change .ensures) (c .before .before .unused .ensures) (small _ _ _ _ (c .before .before .before .before .before .before .loop .inv .1) (c .before .before .before .before .before .before .before .first-transition .ensures) (c .before .before .before .before .record-at .ensures) (c .before .before .before .good-change .ensures) (c .before .before .unused .ensures) (c .before .before .before .before .before .before .before .before .before .pre .1) (c .before .if1 .taken)) (c .before .if1 .taken) (c .place-of .ensures))
 
 same-length : tie.Need-same-length Inv-loop μ-loop
-same-length c = kept (c .before .before .before .before .before .loop .declared) _ (c .before .before .before .before .before .loop .inv .1 .long) (c .before .before .before .before .before .before .before .before .pre .2)
+same-length c = c .before .before .before .before .before .loop .inv .1 .long
 
 returns : tie.Need-returns Inv-loop μ-loop
 returns c = (fail-at (goodTransition (c .before .before .before .before .before .before .before .before .args .s .now) (c .before .before .before .before .before .before .before .before .args .h)) _ _ (c .before .before .before .before .loop-test .taken) (c .before .before .before .before .before .loop .inv .1 .good) (stop _ _ _ _ (c .before .before .before .before .before .loop .inv .1) (c .before .before .before .before .before .before .first-transition .ensures) (c .before .before .before .record-at .ensures) (c .before .before .good-change .ensures) (c .before .unused .ensures) (c .if1 .left)), λ l. absurd (omega arith))
 
 same-length-2 : tie.Need-same-length-2 Inv-loop μ-loop
-same-length-2 c = kept (c .before .loop .declared) _ (c .before .loop .inv .1 .long) (c .before .before .before .before .pre .2)
+same-length-2 c = c .before .loop .inv .1 .long
 
 returns-2 : tie.Need-returns-2 Inv-loop μ-loop
 returns-2 c = (
   fail-none (goodTransition (c .before .before .before .before .args .s .now) (c .before .before .before .before .args .h)) _ _ (c .before .loop .inv .0) (c .loop-test .left) (c .before .loop .inv .1 .good),
-  λ l. subst (λ (n : ℕ). Declared (c .before .before .before .before .args .s .now) (c .before .before .before .before .args .h) n (c .before .loop .declared)) (omega arith) (c .before .loop .inv .1),
+  λ l. subst (λ (n : ℕ). Declared (c .before .before .before .before .args .s .now) (c .before .before .before .before .args .h) (length (c .before .before .before .before .args .declared .now)) n (c .before .loop .declared)) (omega arith) (c .before .loop .inv .1),
 )
 
 pub check-transitions-spec : {M : Type 1} → statement M

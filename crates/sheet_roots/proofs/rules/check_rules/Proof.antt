@@ -3,12 +3,13 @@ use Rattle.sheet_roots.proofs.RuleScan.{Turn, begin, again, stop, finis
 use Rattle.sheet_roots.proofs.Roots.{kept}
 use native.Mathlib.Omega.{arith}
 use Prim.Native.Nat.{_-_}
+use lib.ListN.{length}
 use borrow.Author.Needs.{needs}
 use Rattle.sheet_roots.proofs.rules.check_rules.Statement.{statement}
 use Rattle.sheet_roots.proofs.rules.check_rules.Tie as tie
 
 abbrev Inv-loop : tie.InvT-loop
-Inv-loop s h types tops named₀ n k₀ named k = Turn s h k named
+Inv-loop s h types tops named₀ n k₀ named k = Turn s h (length named₀) k named
 
 abbrev μ-loop : tie.MeasureT-loop
 μ-loop s h types tops named₀ n k₀ named k = n - k
@@ -50,13 +51,13 @@ loop-less : tie.Need-loop-less Inv-loop μ-loop
 loop-less c = search needs
 
 loop-again : tie.Need-loop-again Inv-loop μ-loop
-loop-again c = again _ _ _ (c .before .before .before .before .before .before .before .before .before .before .before .before .before .before .before .before .before .before .before .pre .0 .limits .nodes) (c .before .before .before .before .before .before .before .before .before .before .before .before .before .before .before .before .before .before .before .pre .1) (c .before .before .before .before .before .before .before .before .before .before .before .before .before .before .before .loop .inv) (c .before .before .before .before .before .before .before .before .before .before .before .before .before .before .loop-test .taken) (c .before .before .before .before .before .before .before .before .before .before .before .before .before .first-rule .ensures) (c .before .before .before .before .before .before .before .before .before .before .before .before .record-at .ensures) (c .before .before .before .before .before .before .before .before .before .before .root .ensures) (c .before .before .before .before .before .before .before .before .before .entry .ensures) (c .before .before .before .before .before .before .before .before .cites-lower .ensures) (c .before .before .before .before .before .before .risen .ensures) (c .before .before .before .before .before .unused .ensures) (c .before .before .before .before .if1 .taken) (c .before .before .mark .ensures)
+loop-again c = again _ _ _ (c .before .before .before .before .before .before .before .before .before .before .before .before .before .before .before .before .before .before .before .pre .1) (c .before .before .before .before .before .before .before .before .before .before .before .before .before .before .before .loop .inv) (c .before .before .before .before .before .before .before .before .before .before .before .before .before .before .loop-test .taken) (c .before .before .before .before .before .before .before .before .before .before .before .before .before .first-rule .ensures) (c .before .before .before .before .before .before .before .before .before .before .before .before .record-at .ensures) (c .before .before .before .before .before .before .before .before .before .before .root .ensures) (c .before .before .before .before .before .before .before .before .before .entry .ensures) (c .before .before .before .before .before .before .before .before .cites-lower .ensures) (c .before .before .before .before .before .before .risen .ensures) (c .before .before .before .before .before .unused .ensures) (c .before .before .before .before .if1 .taken) (c .before .before .mark .ensures)
 
 same-length : tie.Need-same-length Inv-loop μ-loop
 same-length c = kept (c .before .before .before .before .before .before .before .before .before .before .before .loop .inv .names) (c .before .before .before .before .before .before .before .before .before .before .before .before .before .before .before .pre .2)
 
 returns : tie.Need-returns Inv-loop μ-loop
-returns c = (stop _ _ _ (c .before .before .before .before .before .before .before .before .before .before .before .before .before .before .before .pre .0 .limits .nodes) (c .before .before .before .before .before .before .before .before .before .before .before .before .before .before .before .pre .1) (c .before .before .before .before .before .before .before .before .before .before .before .loop .inv) (c .before .before .before .before .before .before .before .before .before .before .loop-test .taken) (c .before .before .before .before .before .before .before .before .before .first-rule .ensures) (c .before .before .before .before .before .before .before .before .record-at .ensures) (c .before .before .before .before .before .before .root .ensures) (c .before .before .before .before .before .entry .ensures) (c .before .before .before .before .cites-lower .ensures) (c .before .before .risen .ensures) (c .before .unused .ensures) (c .if1 .left), λ l. absurd (omega (arith, c .before .before .before .before .before .before .before .before .before .before .loop-test .taken)))
+returns c = (stop _ _ _ (c .before .before .before .before .before .before .before .before .before .before .before .before .before .before .before .pre .1) (c .before .before .before .before .before .before .before .before .before .before .before .loop .inv) (c .before .before .before .before .before .before .before .before .before .before .loop-test .taken) (c .before .before .before .before .before .before .before .before .before .first-rule .ensures) (c .before .before .before .before .before .before .before .before .record-at .ensures) (c .before .before .before .before .before .before .root .ensures) (c .before .before .before .before .before .entry .ensures) (c .before .before .before .before .cites-lower .ensures) (c .before .before .risen .ensures) (c .before .unused .ensures) (c .if1 .left), λ l. absurd (omega (arith, c .before .before .before .before .before .before .before .before .before .before .loop-test .taken)))
 
 same-length-2 : tie.Need-same-length-2 Inv-loop μ-loop
 same-length-2 c = kept (c .before .loop .inv .names) (c .before .before .before .before .before .pre .2)

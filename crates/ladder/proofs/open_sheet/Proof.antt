@@ -1,0 +1,30 @@
+-- `ladder::open_sheet` meets its contract: the checker's answer, and the header of an accepted sheet. Assumes nothing.
+use mathlib.Core.Path.{sym, _∙_}
+use Rattle.layout.proofs.Limits.{sixteen}
+use Rattle.records.proofs.Acceptance.{header-good}
+use Rattle.ladder.proofs.Climb.{opened-done, opened-not}
+use borrow.Author.Needs.{needs}
+use Rattle.ladder.proofs.open_sheet.Statement.{statement}
+use Rattle.ladder.proofs.open_sheet.Tie as tie
+
+check-requires : tie.Need-check-requires
+check-requires c κs = search needs
+
+enum-told : tie.Need-enum-told
+enum-told c = search needs
+
+read-requires : tie.Need-read-requires
+read-requires c κs = sixteen _ (header-good _ (sym (c .before .before .check .ensures) ∙ c .enum-told .given .1))
+
+enum-known-r : tie.Need-enum-known-r
+enum-known-r c = search needs
+
+returns : tie.Need-returns
+returns c = rw (c .read .ensures) (sym (opened-done _ (sym (c .before .before .before .check .ensures) ∙ c .before .enum-told .given .1)))
+
+returns-2 : tie.Need-returns-2
+returns-2 c = sym (opened-not _ _ (sym (c .before .before .before .check .ensures) ∙ c .before .r .given .1))
+
+pub open-sheet-spec : {M : Type 1} → statement M
+open-sheet-spec =
+    tie.close (tie.spec check-requires enum-told read-requires enum-known-r returns returns-2)

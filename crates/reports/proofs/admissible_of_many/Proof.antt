@@ -1,0 +1,28 @@
+-- `reports::admissible_of_many` meets its contract. Assumes nothing.
+use mathlib.Core.Path.{refl}
+use Rattle.signed.proofs.Fit.{back}
+use Rattle.sheet.proofs.Parts.{blank-many}
+use borrow.Author.Needs.{needs}
+use Rattle.reports.proofs.admissible_of_many.Statement.{statement}
+use Rattle.reports.proofs.admissible_of_many.Tie as tie
+
+slice-aggregate-admissible-on : tie.Need-slice-aggregate-admissible-on
+slice-aggregate-admissible-on c = search needs
+
+slice-aggregate-admissible-on-2 : tie.Need-slice-aggregate-admissible-on-2
+slice-aggregate-admissible-on-2 c = search needs
+
+admissible-on-requires : tie.Need-admissible-on-requires
+admissible-on-requires c κs = (blank-many _, blank-many _, refl)
+
+returns : tie.Need-returns
+returns c = rw (back (c .before .before .before .before .before .fits .entity), back (c .before .before .before .before .before .fits .state), back (c .before .before .before .before .before .fits .persona), back (c .before .before .before .before .before .fits .operation)) at (c .before .before .admissible-on .ensures)
+
+pub admissible-of-many-spec : {M : Type 1} → statement M
+admissible-of-many-spec =
+    tie.close
+    (tie.spec
+    slice-aggregate-admissible-on
+    slice-aggregate-admissible-on-2
+    admissible-on-requires
+    returns)

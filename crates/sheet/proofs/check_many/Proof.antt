@@ -1,0 +1,27 @@
+-- `sheet::check_many` meets its contract. Assumes nothing.
+use mathlib.Core.Path.{refl}
+use Rattle.sheet.proofs.Parts.{blank-many}
+use borrow.Author.Needs.{needs}
+use Rattle.sheet.proofs.check_many.Statement.{statement}
+use Rattle.sheet.proofs.check_many.Tie as tie
+
+slice-aggregate-check-ranges : tie.Need-slice-aggregate-check-ranges
+slice-aggregate-check-ranges c = search needs
+
+slice-aggregate-check-ranges-2 : tie.Need-slice-aggregate-check-ranges-2
+slice-aggregate-check-ranges-2 c = search needs
+
+check-ranges-requires : tie.Need-check-ranges-requires
+check-ranges-requires c κs = (blank-many _, blank-many _, refl)
+
+returns : tie.Need-returns
+returns c = search needs
+
+pub check-many-spec : {M : Type 1} → statement M
+check-many-spec =
+    tie.close
+    (tie.spec
+    slice-aggregate-check-ranges
+    slice-aggregate-check-ranges-2
+    check-ranges-requires
+    returns)
