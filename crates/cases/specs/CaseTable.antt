@@ -9,7 +9,7 @@ use Rattle.signed.specs.Words.{eqZ}
 use Rattle.answer.specs.declared.Answer.{Answer}
 use Rattle.answer.specs.Answers.{statusAnswer, countAnswer, walkAnswer}
 use Rattle.records.specs.Accept.{checked}
-use Rattle.listing.specs.Lists.{Next, First, State}
+use Rattle.listing.specs.Lists.{Next, First}
 use Rattle.evaluate.specs.Calls.{assembleAnswer, assembleValues}
 use Rattle.flows.specs.Calls.{runCall, runPathLeft, runStatesLeft}
 use Rattle.flows.specs.PublicLists.{publicCall, publicCalls}

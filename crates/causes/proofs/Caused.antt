@@ -10,7 +10,7 @@ use Rattle.tables.proofs.Bools.{tests}
 use Rattle.tables.proofs.Scans.{any-of}
 use Rattle.answer.specs.declared.Count.{Count}
 use Rattle.answer.specs.declared.Count.the-variants.{Is, Refused}
-use Rattle.signed.specs.Words.{num, within}
+use Rattle.signed.specs.Words.{num}
 use Rattle.signed.proofs.Bounds.{true-in}
 use Rattle.signed.proofs.Numbers.{num-of}
 use Rattle.layout.specs.declared.Header.{Header}
@@ -22,7 +22,7 @@ use Rattle.operation.specs.declared.Choice.the-variants.{Outcome}
 use Rattle.operation.specs.Mask.{allowed}
 use Rattle.operation.specs.States.{present}
 use Rattle.operation.specs.Outcomes.{chosen}
-use Rattle.operation.specs.Changes.{applied, performed}
+use Rattle.operation.specs.Changes.{performed}
 use Rattle.operation.proofs.Movers.{Moves}
 use Rattle.operation.proofs.Guarantees.{Changed, performed-by, changes}
 use Rattle.reach.specs.Moves.{leaves, leads}

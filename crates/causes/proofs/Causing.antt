@@ -12,7 +12,6 @@ use Rattle.signed.specs.Words.{within}
 use Rattle.words.specs.Record.{number, recordAt}
 use Rattle.layout.specs.declared.Header.{Header}
 use Rattle.layout.specs.Header.{firstOperation}
-use Rattle.layout.specs.Tables.{operation}
 use Rattle.records.specs.Accepted.{Accepted}
 use Rattle.records.proofs.OperationLaws.{operation-ok}
 use Rattle.operation.specs.Mask.{allowed}

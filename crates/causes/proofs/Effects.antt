@@ -15,7 +15,7 @@ use Rattle.words.specs.declared.Record.{Record}
 use Rattle.words.specs.Record.{recordAt}
 use Rattle.layout.specs.declared.Header.{Header}
 use Rattle.layout.specs.Header.{firstEffect}
-use Rattle.layout.specs.Tables.{operation, effect}
+use Rattle.layout.specs.Tables.{effect}
 use Rattle.records.specs.Accepted.{Accepted}
 use Rattle.records.proofs.OperationLaws.{Of, inside, operation-ok}
 use Rattle.operation.specs.declared.Effects.{Effects}

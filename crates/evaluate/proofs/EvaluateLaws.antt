@@ -18,20 +18,19 @@ use Rattle.answer.specs.Answers.{SmallStatus, SmallCount}
 use Rattle.layout.specs.declared.Header.{Header}
 use Rattle.layout.specs.Header.{headerOf}
 use Rattle.records.specs.Accept.{checked}
-use Rattle.records.specs.Accepted.{Accepted}
 use Rattle.records.proofs.Acceptance.{accepted}
 use Rattle.facts.specs.Faults.{factsFault}
 use Rattle.facts.specs.Assembled.{FactsIn, assembled}
 use Rattle.facts.proofs.FaultLaws.{facts-in, fault-small}
 use Rattle.predicate.specs.Verdicts.{verdictsOf}
 use Rattle.predicate.proofs.VerdictLaws.{verdicts-true}
-use Rattle.operation.specs.States.{statesFault, StatesIn}
+use Rattle.operation.specs.States.{statesFault}
 use Rattle.operation.proofs.LentStates.{states-in, stray-small}
 use Rattle.attempt.specs.Attempts.{Attemptable}
 use Rattle.attempt.proofs.AttemptLaws.{attempt-small}
 use Rattle.ladder.specs.declared.Opened.{Opened}
-use Rattle.ladder.specs.declared.Opened.the-variants.{Sheet, Refused as Shut}
-use Rattle.ladder.specs.Ladder.{firstOf, rungs, ladder, opened, exists, matches, factsLent}
+use Rattle.ladder.specs.declared.Opened.the-variants.{Refused as Shut}
+use Rattle.ladder.specs.Ladder.{firstOf, rungs, opened, exists, matches, factsLent}
 use Rattle.ladder.proofs.Climb.{Open, Passed, sheet-shut, climbs, passed, climbed, ladder-small}
 use Rattle.evaluate.specs.Calls.{assembleAnswer, assembleValues, verdictsAnswer, verdictsBuffer, operateLadder, performedAs, statesAs, operateAnswer, operateStates}
 use Rattle.evaluate.specs.Settled.{Known, Asked}

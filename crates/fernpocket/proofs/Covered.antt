@@ -1,7 +1,7 @@
 -- Whatever an operation call did, S3a and S4 answer yes to for the persona who made it; and from a reached state it leads to a reached one.
 -- Assumes nothing.
 use mathlib.Core.Path.{_≡_, refl, sym, ap, _∙_}
-use mathlib.Core.Bool.{true, _&&_}
+use mathlib.Core.Bool.{true}
 use mathlib.Core.List.{List}
 use Prim.Native.Nat.{ℕ, _<_}
 use lib.IntN.{ℤ, pos}
@@ -11,24 +11,22 @@ use Rattle.signed.proofs.Numbers.{num-of}
 use Rattle.answer.specs.declared.Status.{Status}
 use Rattle.answer.specs.declared.Status.the-variants.{Done, Refused}
 use Rattle.answer.specs.declared.Count.the-variants.{Is}
-use Rattle.layout.specs.declared.Header.{Header}
 use Rattle.layout.specs.Header.{headerOf}
 use Rattle.records.specs.Accept.{checked}
 use Rattle.records.specs.Entities.{states as stateCount}
-use Rattle.operation.specs.States.{present, StatesIn}
-use Rattle.attempt.specs.Attempts.{Attemptable, attemptedStates}
+use Rattle.operation.specs.States.{present}
+use Rattle.attempt.specs.Attempts.{Attemptable}
 use Rattle.attempt.proofs.AttemptLaws.{attempted-in}
 use Rattle.facts.specs.Assembled.{assembled}
 use Rattle.predicate.specs.Verdicts.{verdictsOf}
 use Rattle.reach.specs.Reached.{Reached}
 use Rattle.causes.specs.Causes.{admissible, canCause}
 use Rattle.causes.proofs.Caused.{caused, reached-attempt}
-use Rattle.ladder.specs.Ladder.{exists}
 use Rattle.ladder.proofs.Climb.{climbed}
 use Rattle.evaluate.specs.Settled.{Asked}
 use Rattle.evaluate.specs.Calls.{operateLadder, statesAs, operateStates}
 use Rattle.evaluate.proofs.EvaluateLaws.{attemptable, all-asked}
-use Rattle.reports.specs.Reports.{climb, stateExists, yesNo, admissibleNumbers, causeNumbers, admissibleReport, canCauseReport}
+use Rattle.reports.specs.Reports.{stateExists, admissibleNumbers, causeNumbers, admissibleReport, canCauseReport}
 use Rattle.reports.proofs.ReportLaws.{climb-exists}
 
 module _ (s values given states : List ℤ) (p o : ℤ) where

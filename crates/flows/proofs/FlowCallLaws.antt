@@ -3,14 +3,13 @@
 use mathlib.Core.Path.{_≡_, refl, sym, subst, _∙_}
 use mathlib.Core.Bool.{Bool, true, false, _&&_}
 use mathlib.Core.List.{List}
-use mathlib.Core.Logic.{⊎-elim}
-use Prim.Native.Nat.{ℕ, _≤_}
+use Prim.Native.Nat.{ℕ}
 use lib.IntN.{ℤ}
 use lib.ListN.{length}
 use lib.Dec.{leb}
 use native.Mathlib.Omega.{arith}
 use borrow.Author.Tests.{leb-true, ltb-true}
-use Rattle.tables.proofs.Bools.{tests, bool-cases}
+use Rattle.tables.proofs.Bools.{tests}
 use Rattle.signed.specs.Words.{num}
 use Rattle.answer.specs.declared.Refusal.{Refusal}
 use Rattle.answer.specs.declared.Status.{Status}
@@ -21,7 +20,6 @@ use Rattle.answer.specs.Answers.{SmallStatus, SmallWalk}
 use Rattle.layout.specs.declared.Header.{Header}
 use Rattle.layout.specs.declared.Flow.{Flow}
 use Rattle.layout.specs.Header.{headerOf}
-use Rattle.records.specs.Accept.{checked}
 use Rattle.records.specs.Accepted.{Accepted}
 use Rattle.records.proofs.Acceptance.{accepted}
 use Rattle.facts.specs.Faults.{factsFault}
@@ -37,10 +35,9 @@ use Rattle.listing.proofs.Answers.{first-small, next-small}
 use Rattle.run.specs.Runs.{Runnable}
 use Rattle.run.proofs.RunPaths.{run-small}
 use Rattle.ladder.specs.declared.Opened.{Opened}
-use Rattle.ladder.specs.declared.Opened.the-variants.{Sheet, Refused as Shut}
-use Rattle.ladder.specs.Ladder.{firstOf, rungs, ladder, opened, exists, matches, factsLent}
-use Rattle.ladder.proofs.Climb.{Open, Passed, Climbed, sheet-shut, climbs, passed, climbed, ladder-small}
-use Rattle.evaluate.specs.Settled.{Known}
+use Rattle.ladder.specs.declared.Opened.the-variants.{Refused as Shut}
+use Rattle.ladder.specs.Ladder.{firstOf, rungs, opened, exists, matches, factsLent}
+use Rattle.ladder.proofs.Climb.{Open, Passed, sheet-shut, climbs, passed, climbed, ladder-small}
 use Rattle.evaluate.proofs.EvaluateLaws.{known-in}
 use Rattle.flows.specs.declared.Entered.{Entered}
 use Rattle.flows.specs.declared.Entered.the-variants.{At, Refused as Out}

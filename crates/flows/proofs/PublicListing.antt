@@ -1,7 +1,6 @@
 -- Demand 3 of the public calls: over every list of first and next that starts with a first, and of every run by itself.
 -- Assumes nothing.
 use mathlib.Core.Path.{_≡_, refl, _∙_}
-use mathlib.Core.Bool.{true}
 use mathlib.Core.List.{List, [], _∷_}
 use Prim.Native.Nat.{ℕ, suc}
 use lib.IntN.{ℤ}
@@ -11,8 +10,7 @@ use borrow.Author.Tests.{ltb-true, le-leb}
 use Rattle.signed.specs.Words.{num}
 use Rattle.answer.specs.declared.Status.{Status}
 use Rattle.answer.specs.declared.Status.the-variants.{Done, Refused}
-use Rattle.answer.specs.declared.Walk.the-variants.{Path as Walked, Refused as NoWalk}
-use Rattle.layout.specs.declared.Header.{Header}
+use Rattle.answer.specs.declared.Walk.the-variants.{Path as Walked}
 use Rattle.layout.specs.Header.{headerOf}
 use Rattle.records.proofs.Acceptance.{accepted}
 use Rattle.facts.specs.Assembled.{assembled}
@@ -21,10 +19,10 @@ use Rattle.listing.specs.Paths.{stepsOf}
 use Rattle.listing.specs.Calls.{Lent}
 use Rattle.listing.specs.Lists.{Call, First, Next, State, called, calledOn, nexts, Listed}
 use Rattle.listing.proofs.Listing.{calls-listed, listing, held-length}
-use Rattle.run.specs.Runs.{ran, runAnswer, runPath, Taken}
+use Rattle.run.specs.Runs.{ran, runPath}
 use Rattle.run.proofs.RunPaths.{run-listed}
 use Rattle.ladder.proofs.Climb.{ladder-open, all-passed}
-use Rattle.flows.specs.Calls.{pathLent, flowLadder, firstCall, firstLeft, nextCall, nextLeft, runLadder, runCall, runPathLeft}
+use Rattle.flows.specs.Calls.{flowLadder, firstCall, firstLeft, nextCall, nextLeft, runLadder, runCall, runPathLeft}
 use Rattle.flows.specs.PublicLists.{publicCall, publicCalls, Listable, TookPath}
 use Rattle.flows.proofs.FlowCallLaws.{path-judged, runnable, gone}
 

@@ -1,17 +1,16 @@
 -- The checker's answer has a small place.
 -- Assumes nothing.
-use mathlib.Core.Path.{_≡_, subst, sym}
-use mathlib.Core.Bool.{Bool, true, false}
+use mathlib.Core.Path.{_≡_}
+use mathlib.Core.Bool.{true}
 use mathlib.Core.List.{List}
 use mathlib.Core.Logic.{⊎-elim}
-use Prim.Native.Nat.{ℕ, _<_, _≤_, _^_}
+use Prim.Native.Nat.{_<_}
 use lib.IntN.{ℤ}
 use lib.Dec.{lit<}
 use native.Mathlib.Omega.{arith}
 use native.Mathlib.Decide.{decLt}
 use Rattle.tables.proofs.Bools.{bool-cases}
 use Rattle.answer.specs.Answers.{SmallStatus}
-use Rattle.answer.specs.declared.Status.{Status}
 use Rattle.layout.specs.Header.{headerOf, goodHeader, records}
 use Rattle.layout.specs.Groups.{goodGroups}
 use Rattle.layout.proofs.Limits.{sized}

@@ -1,14 +1,14 @@
 -- The scan of a group's counts, and what good groups say of their tables.
 -- Assumes nothing.
-use mathlib.Core.Path.{_≡_, refl, sym, _∙_, subst}
-use mathlib.Core.Bool.{Bool, true, false, _&&_}
+use mathlib.Core.Path.{_≡_, sym}
+use mathlib.Core.Bool.{true, false}
 use mathlib.Core.List.{List}
-use Prim.Native.Nat.{ℕ, zero, suc, _+_, _*_, _≤_, _<_}
+use Prim.Native.Nat.{ℕ, _+_, _*_, _≤_, _<_}
 use lib.IntN.{ℤ}
 use lib.Dec.{leb, eqb}
 use native.Mathlib.Omega.{arith}
 use borrow.Author.Tests.{le-leb, lt-leb}
-use Rattle.tables.specs.Scan.{allBelow, sumBelow}
+use Rattle.tables.specs.Scan.{sumBelow}
 use Rattle.tables.proofs.Bools.{tests}
 use Rattle.tables.proofs.Scans.{sum-zero, sum-more, extend-one, all-of, all-fails}
 use Rattle.layout.specs.declared.Header.{Header}

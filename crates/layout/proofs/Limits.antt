@@ -1,17 +1,15 @@
 -- What a good header guarantees.
 -- Assumes nothing.
-use mathlib.Core.Path.{_≡_, sym, _∙_, subst}
-use mathlib.Core.Bool.{Bool, true, false, _&&_}
+use mathlib.Core.Path.{_≡_}
+use mathlib.Core.Bool.{true}
 use mathlib.Core.List.{List}
-use Prim.Native.Nat.{ℕ, _+_, _*_, _≤_}
+use Prim.Native.Nat.{_≤_}
 use lib.IntN.{ℤ}
 use lib.ListN.{length}
-use lib.Dec.{leb, eqb}
 use native.Mathlib.Omega.{arith}
-use borrow.Author.Tests.{leb-true, eqb-true}
 use Rattle.tables.proofs.Bools.{tests}
 use Rattle.layout.specs.declared.Header.{Header}
-use Rattle.layout.specs.Header.{inLimits, goodHeader, goodFrame, headerOf, records}
+use Rattle.layout.specs.Header.{inLimits, goodHeader, headerOf}
 use Rattle.layout.specs.Sized.{Limits, Sized}
 
 pub limits : (h : Header) → inLimits h ≡ true → Limits h

@@ -8,13 +8,6 @@ pub mod range;
 
 use layout::Header;
 use signed::bounded;
-use signed::can_fail;
-use signed::can_hold;
-use signed::larger;
-use signed::minus;
-use signed::plus;
-use signed::smaller;
-use signed::times;
 use words::Record;
 use words::unused;
 

@@ -3,7 +3,6 @@ ghost use mathlib.Core.Path.{_≡_};
 ghost use mathlib.Core.Bool.{true, cond};
 ghost use lib.IntN.{pos, _+ℤ_, _-ℤ_, _*ℤ_};
 ghost use Rattle.signed.specs.Words.{bounded, minZ, maxZ};
-ghost use Rattle.signed.specs.Compare.{canHold, canFail};
 ghost use Rattle.node.specs.Ranges.{span, comparedSpan, rangeFrom, goodSpan, Bounded, Factor};
 use crate::Kind;
 use signed::bounded;

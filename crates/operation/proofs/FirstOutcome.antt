@@ -15,7 +15,6 @@ use Rattle.tables.proofs.Scans.{all-of, all-fails}
 use Rattle.tables.proofs.Scanned.{stopped, ended, step, first-fail}
 use Rattle.layout.specs.declared.Header.{Header}
 use Rattle.layout.specs.Tables.{operation, effect}
-use Rattle.records.specs.Operations.{outcome}
 use Rattle.records.proofs.OperationLaws.{inside, operation-ok}
 use Rattle.operation.specs.declared.Choice.the-variants.{Outcome, Nothing}
 use Rattle.operation.specs.declared.Effects.{Effects}

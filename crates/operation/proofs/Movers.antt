@@ -14,7 +14,7 @@ use Rattle.tables.proofs.Scanned.{stopped, ended, first-fail}
 use Rattle.tables.proofs.Grown.{length-grown, grown-at}
 use Rattle.tables.specs.Table.{entry}
 use Rattle.layout.specs.declared.Header.{Header}
-use Rattle.layout.specs.Tables.{operation, effect}
+use Rattle.layout.specs.Tables.{effect}
 use Rattle.records.specs.Accepted.{Accepted}
 use Rattle.records.specs.Operations.{outcome}
 use Rattle.records.proofs.OperationLaws.{Of, inside, once}

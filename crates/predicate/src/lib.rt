@@ -9,7 +9,7 @@ ghost use Rattle.facts.specs.Assembled.{FactsIn};
 ghost use Rattle.predicate.specs.Exprs.{exprOf};
 ghost use Rattle.predicate.specs.Values.{bit, decides, one, two, valueOf, truth, Evaluable, SmallFactor};
 ghost use Rattle.predicate.specs.Base.{NodeAt, EvaluableAt};
-ghost use Rattle.predicate.specs.Verdicts.{whenNode, verdictsOf};
+ghost use Rattle.predicate.specs.Verdicts.{verdictsOf};
 ghost use Rattle.predicate.specs.Sizes.{treeSize};
 ghost use lib.ListN.{length};
 use layout::Header;

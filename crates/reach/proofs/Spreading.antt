@@ -1,7 +1,7 @@
 -- The scan of the transitions for one state, transition by transition.
 -- Assumes nothing.
-use mathlib.Core.Path.{_≡_, refl, sym, subst, _∙_}
-use mathlib.Core.Bool.{Bool, true, false, _&&_, _||_}
+use mathlib.Core.Path.{_≡_, sym, subst, _∙_}
+use mathlib.Core.Bool.{Bool, false, _&&_, _||_}
 use mathlib.Core.List.{List}
 use Prim.Native.Nat.{ℕ, _+_, _≤_, _<_}
 use lib.IntN.{ℤ}
@@ -18,6 +18,8 @@ use Rattle.words.specs.Record.{recordAt}
 use Rattle.layout.specs.declared.Header.{Header}
 use Rattle.layout.specs.Header.{firstTransition}
 use Rattle.layout.specs.Tables.{transition}
+use Rattle.records.specs.Accepted.{Accepted}
+use Rattle.records.proofs.OperationLaws.{entity-ok, transition-ok}
 use Rattle.reach.specs.Moves.{leaves, leads}
 use Rattle.reach.specs.Inner.{leadsBy, Spread}
 
@@ -26,6 +28,13 @@ pub record Spreading (s : List ℤ) (h : Header) (n a : ℕ) (before : List Bool
   pub here : k ≤ h .transitions
   pub long : length after ≡ 16
   pub each : (q : ℕ) → q < 16 → getD after q false ≡ (getD before q false || anyBelow (leadsBy s h n a q) k)
+
+-- a transition leads to one of sixteen states
+pub to-few : {s : List ℤ} {h : Header} → Accepted s h → {k base : ℕ} {r : Record} → k < h .transitions → base ≡ firstTransition h → r ≡ recordAt s (base + k) → r .w2 < 16
+to-few {s} {h} a {k} l d e =
+    let q = transition-ok a k l in
+    let few = entity-ok a (transition s h k .w0) (q .entity) .few in
+    rw (e, d) (omega (arith, q .to, few))
 
 module _ (s : List ℤ) (h : Header) (n a : ℕ) (before : List Bool) where
   pub none : length before ≡ 16 → Spreading s h n a before 0 before

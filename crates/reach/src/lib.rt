@@ -9,7 +9,6 @@ ghost use Rattle.reach.specs.Moves.{leaves};
 ghost use Rattle.reach.specs.Inner.{Spread, nextOpen};
 use layout::Entity;
 use layout::Header;
-use tables::mark;
 use words::Record;
 use words::number;
 use words::record_at;
@@ -32,8 +31,13 @@ fn scan(s: &[i64], h: Header, n: Entity, state: usize, found: &mut [bool])
     let mut k = 0;
     while k < h.transitions {
         let r = record_at(s, base + k);
-        mark(found, leaves(entity, state, r), r.w2);
-        k += 1;
+        if leaves(entity, state, r) {
+            let to = r.w2;
+            found[to] = true;
+            k += 1;
+        } else {
+            k += 1;
+        }
     }
 }
 

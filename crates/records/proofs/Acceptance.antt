@@ -1,27 +1,24 @@
 -- The checker's answer by its cases, and what acceptance gives: every record is good.
 -- Assumes nothing.
-use mathlib.Core.Path.{_≡_, refl, sym, ap, subst, _∙_}
-use mathlib.Core.Bool.{Bool, true, false}
-use mathlib.Core.List.{List, [], _∷_}
-use mathlib.Core.Logic.{_⊎_, inl, inr, ⊎-elim}
-use Prim.Native.Nat.{ℕ, _+_, _≤_, _<_}
+use mathlib.Core.Path.{_≡_, refl, sym, subst, _∙_}
+use mathlib.Core.Bool.{true, false}
+use mathlib.Core.List.{List}
+use mathlib.Core.Logic.{_⊎_, ⊎-elim}
+use Prim.Native.Nat.{ℕ, _≤_, _<_}
 use lib.IntN.{ℤ}
-use lib.Dec.{ltb}
 use native.Mathlib.Omega.{arith}
 use native.Mathlib.Decide.{decLt}
 use borrow.Author.Tests.{lt-ltb, le-ltb}
 use Rattle.answer.proofs.Distinct.{refused-done}
-use Rattle.tables.specs.Scan.{firstFail}
 use Rattle.tables.proofs.Bools.{bool-cases}
 use Rattle.tables.proofs.Scanned.{Scanned, first-fail, first-scan}
 use Rattle.answer.specs.declared.Refusal.the-variants.{Header as BadHeader, Group, Record as BadRecord}
-use Rattle.answer.specs.declared.Status.{Status}
 use Rattle.answer.specs.declared.Status.the-variants.{Done, Refused}
 use Rattle.layout.specs.declared.Header.{Header}
 use Rattle.layout.specs.Header.{headerOf, goodHeader, records}
 use Rattle.layout.specs.Groups.{goodGroups}
 use Rattle.layout.proofs.Limits.{sized}
-use Rattle.records.specs.Accept.{Table, tablesOf, goodIn, firstBad, checked}
+use Rattle.records.specs.Accept.{tablesOf, goodIn, firstBad, checked}
 use Rattle.records.specs.Accepted.{Accepted}
 use Rattle.records.proofs.Chain.{First, total, first-scanned, first-good, rest-good}
 

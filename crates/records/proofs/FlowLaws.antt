@@ -16,7 +16,7 @@ use Rattle.tables.proofs.Scans.{sum-suc, sum-mono}
 use Rattle.words.specs.declared.Record.{Record}
 use Rattle.words.specs.Record.{recordAt}
 use Rattle.layout.specs.declared.Header.{Header}
-use Rattle.layout.specs.Groups.{stepCount, routeCount, goodGroup, goodGroups}
+use Rattle.layout.specs.Groups.{stepCount, routeCount}
 use Rattle.layout.specs.Tables.{operation, flow, step, route}
 use Rattle.layout.proofs.Owners.{holder-is}
 use Rattle.records.specs.Nodes.{typeOf}

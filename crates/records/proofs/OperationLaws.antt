@@ -16,7 +16,7 @@ use Rattle.tables.proofs.Scans.{any-at, any-none, sum-suc, sum-mono}
 use Rattle.words.specs.declared.Record.{Record}
 use Rattle.words.specs.Record.{recordAt}
 use Rattle.layout.specs.declared.Header.{Header}
-use Rattle.layout.specs.Groups.{effectCount, goodGroup, goodGroups}
+use Rattle.layout.specs.Groups.{effectCount}
 use Rattle.layout.specs.Tables.{entity, transition, operation, effect}
 use Rattle.layout.proofs.Owners.{holder-is, held, starts-by, ends-past}
 use Rattle.records.specs.Accepted.{Accepted}

@@ -1,6 +1,6 @@
 -- One shifted left by a number of personas is that power of two.
 -- Assumes nothing.
-use mathlib.Core.Path.{_≡_, _∙_}
+use mathlib.Core.Path.{_≡_}
 use Prim.Native.Nat.{ℕ, _*_, _^_, _%_, _≤_}
 use lib.Dec.{lit<}
 use lib.Pow.{pow-mono}

@@ -2,11 +2,10 @@
 -- Assumes nothing.
 use Prim.Native.Nat.{ℕ, _+_, _-_, _^_}
 use lib.IntN.{ℤ}
-use mathlib.Core.Bool.{Bool, true, false, not, cond, _&&_, _||_}
+use mathlib.Core.Bool.{Bool, not, cond, _&&_, _||_}
 use mathlib.Core.List.{List}
 use lib.Dec.{leb, ltb, eqb}
 use Rattle.tables.specs.Scan.{anyBelow, sumBelow, firstFail}
-use Rattle.words.specs.declared.Record.{Record}
 use Rattle.words.specs.Record.{unused}
 use Rattle.layout.specs.declared.Header.{Header}
 use Rattle.layout.specs.Groups.{effectCount}

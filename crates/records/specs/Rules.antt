@@ -3,11 +3,10 @@
 -- Assumes nothing.
 use Prim.Native.Nat.{ℕ, _-_}
 use lib.IntN.{ℤ}
-use mathlib.Core.Bool.{Bool, true, false, not, cond, _&&_, _||_}
+use mathlib.Core.Bool.{Bool, true, false, not, _&&_, _||_}
 use mathlib.Core.List.{List}
 use lib.Dec.{leb, ltb, eqb}
 use Rattle.tables.specs.Table.{entry}
-use Rattle.words.specs.declared.Record.{Record}
 use Rattle.words.specs.Record.{unused}
 use Rattle.layout.specs.declared.Header.{Header}
 use Rattle.layout.specs.Tables.{node, rule}

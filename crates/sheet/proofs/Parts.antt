@@ -6,28 +6,23 @@ use mathlib.Core.List.{List, [], _∷_, _++_}
 use mathlib.Core.Logic.{⊎-elim}
 use Prim.Native.Nat.{ℕ, _+_, _*_, _≤_, _<_}
 use lib.IntN.{ℤ, pos}
-use lib.ListN.{length, getD, replicate, length-replicate}
+use lib.ListN.{length, replicate, length-replicate}
 use native.Mathlib.Omega.{arith}
 use native.Mathlib.Decide.{decLt}
 use lib.Dec.{leb, ltb}
 use borrow.Author.Tests.{leb-true, ltb-true}
 use Rattle.tables.proofs.Bools.{or-cases}
 use Rattle.tables.specs.Scan.{firstFail}
-use Rattle.tables.specs.Table.{grown, entry}
 use Rattle.tables.proofs.Scanned.{Scanned, first-scan, all-pass}
 use Rattle.tables.proofs.Grown.{grown-at}
-use Rattle.answer.specs.declared.Refusal.{Refusal}
 use Rattle.answer.specs.declared.Refusal.the-variants.{Record as BadRecord}
-use Rattle.answer.specs.declared.Status.{Status}
 use Rattle.answer.specs.declared.Status.the-variants.{Done, Refused}
 use Rattle.layout.specs.declared.Header.{Header}
 use Rattle.layout.specs.Header.{headerOf, goodHeader, firstEntity, firstFlow, records}
 use Rattle.layout.specs.Sized.{Sized}
 use Rattle.layout.specs.Groups.{goodGroups}
 use Rattle.layout.proofs.Limits.{sized, sixteen}
-use Rattle.layout.specs.Tables.{entity}
 use Rattle.records.specs.Accept.{Table, tablesOf, goodIn, firstBad, checked}
-use Rattle.records.specs.Entities.{goodEntity, goodTransition}
 use Rattle.records.specs.Operations.{goodOperation}
 use Rattle.records.proofs.Chain.{First, none, here, later, total, first-scanned, first-good, rest-good}
 use Rattle.records.proofs.Acceptance.{found, bad-record, no-fault}

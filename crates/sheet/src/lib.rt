@@ -1,7 +1,7 @@
 // The sheet checker: refusals 1, 2 and 3.
 ghost use mathlib.Core.Path.{_≡_};
 ghost use mathlib.Core.Bool.{true, false};
-ghost use Prim.Native.Nat.{ℕ, _+_, _≤_, _<_};
+ghost use Prim.Native.Nat.{_+_, _≤_, _<_};
 ghost use lib.ListN.{length};
 ghost use Rattle.answer.specs.declared.Status.the-variants.{Done};
 ghost use Rattle.layout.specs.Header.{headerOf, records};

@@ -1,20 +1,20 @@
 -- The scan of an operation's effects: what a turn of the loop computes.
 -- Assumes nothing.
 use mathlib.Core.Path.{_≡_, refl, sym, subst, ap, _∙_}
-use mathlib.Core.Bool.{Bool, true, false, not, cond, _&&_, _||_}
+use mathlib.Core.Bool.{Bool, true, false, not, _&&_}
 use mathlib.Core.List.{List}
-use mathlib.Core.Logic.{_⊎_, inl, inr, ⊎-elim}
-use Prim.Native.Nat.{ℕ, zero, suc, _+_, _-_, _*_, _≤_, _<_}
+use mathlib.Core.Logic.{_⊎_, ⊎-elim}
+use Prim.Native.Nat.{ℕ, _+_, _-_, _*_, _≤_, _<_}
 use lib.IntN.{ℤ}
 use lib.Dec.{eqb}
 use lib.ListN.{length, getD, set, replicate, length-replicate, getD-replicate, length-set}
 use lib.Seq.{getD-set-same, getD-set-other}
 use native.Mathlib.Omega.{arith}
 use native.Mathlib.Numerals.{add-one}
-use native.Mathlib.Decide.{ℕ-discrete, decLt}
-use borrow.Author.Tests.{eq-eqb, ne-eqb, eqb-true, eqb-false}
+use native.Mathlib.Decide.{ℕ-discrete}
+use borrow.Author.Tests.{eq-eqb, ne-eqb}
 use Rattle.tables.specs.Scan.{anyBelow, sumBelow, firstFail}
-use Rattle.tables.proofs.Bools.{tests, bool-cases, true-false, and-true, and-left, and-right}
+use Rattle.tables.proofs.Bools.{tests, bool-cases, true-false, and-true}
 use Rattle.tables.proofs.Scans.{any-same, extend-one, sum-zero, sum-more}
 use Rattle.tables.proofs.Scanned.{fail-at, fail-none}
 use Rattle.words.specs.declared.Record.{Record}
@@ -24,7 +24,7 @@ use Rattle.layout.specs.Header.{firstOperation, firstEffect}
 use Rattle.layout.specs.Tables.{operation, effect}
 use Rattle.records.specs.Entities.{goodChange, declared}
 use Rattle.records.specs.Operations.{goodEffect, goodEffectOf, goodOutcome, operationOf, outcome, effectsEnd, sameSource}
-use Rattle.sheet_states.specs.Flags.{Small, placeOf, Declared}
+use Rattle.sheet_states.specs.Flags.{Small, placeOf}
 use Rattle.sheet_states.proofs.Flags.{small-change}
 use Rattle.sheet_effects.specs.Stamps.{sourceOf, stampOf, lastStamp, Before, Group, Seen, Stretch}
 use Rattle.sheet_effects.proofs.Stamps.{outcomeTest, effect-outcome, out-small, ordered, ordered-next, any-last, same-source, belongs, ends-in, starts, covers}

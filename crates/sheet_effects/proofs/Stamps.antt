@@ -1,27 +1,26 @@
 -- Stamps rise along the effects, so the last stamp of a source tells whether the outcome has had an effect from it.
 -- Assumes nothing.
-use mathlib.Core.Path.{_≡_, refl, sym, subst, ap, _∙_}
-use mathlib.Core.Bool.{Bool, true, false, not, cond, _&&_, _||_}
+use mathlib.Core.Path.{_≡_, refl, sym, ap, _∙_}
+use mathlib.Core.Bool.{Bool, true, false, cond, _&&_, _||_}
 use mathlib.Core.List.{List}
-use mathlib.Core.Logic.{_⊎_, inl, inr, ⊎-elim}
-use Prim.Native.Nat.{ℕ, zero, suc, _+_, _-_, _*_, _≤_, _<_}
+use mathlib.Core.Logic.{_⊎_, ⊎-elim}
+use Prim.Native.Nat.{ℕ, zero, suc, _+_, _-_, _≤_, _<_}
 use lib.IntN.{ℤ}
-use lib.Dec.{eqb, leb, ltb}
+use lib.Dec.{eqb}
 use native.Mathlib.Omega.{arith}
-use native.Mathlib.Decide.{ℕ-discrete, decLt}
-use borrow.Author.Tests.{eq-eqb, ne-eqb, eqb-true, eqb-false}
+use native.Mathlib.Decide.{ℕ-discrete}
+use borrow.Author.Tests.{eq-eqb, ne-eqb, eqb-true}
 use Rattle.records.proofs.Parts.{few-outcomes}
 use Rattle.layout.proofs.Groups.{covers-effects}
 use Rattle.tables.specs.Scan.{anyBelow, sumBelow}
-use Rattle.tables.proofs.Bools.{tests, bool-cases, same-tests, true-false, or-cases}
-use Rattle.tables.proofs.Scans.{any-same, none-any, sum-mono}
+use Rattle.tables.proofs.Bools.{tests, same-tests, or-cases}
+use Rattle.tables.proofs.Scans.{none-any, sum-mono}
 use Rattle.tables.proofs.Entries.{or-true, or-false}
-use Rattle.words.specs.declared.Record.{Record}
 use Rattle.words.specs.Record.{recordAt}
 use Rattle.layout.specs.declared.Header.{Header}
-use Rattle.layout.specs.Groups.{effectCount, goodGroup, goodGroups}
+use Rattle.layout.specs.Groups.{goodGroups}
 use Rattle.layout.specs.Tables.{operation, effect}
-use Rattle.layout.proofs.Owners.{holder, holder-is, held, starts-by, ends-past, holder-mono, end-is}
+use Rattle.layout.proofs.Owners.{holder-is, held, starts-by, holder-mono, end-is}
 use Rattle.records.specs.Operations.{goodOperation, goodEffect, goodEffectOf, goodOutcome, operationOf, outcome, effectsEnd, sameSource}
 use Rattle.sheet_effects.specs.Stamps.{sourceOf, stampOf, lastStamp}
 

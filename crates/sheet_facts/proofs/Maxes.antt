@@ -1,25 +1,23 @@
 -- The array of maxes: what it holds after k good facts, and that the scan's test is the definition's.
 -- Assumes nothing.
-use mathlib.Core.Path.{_≡_, refl, sym, subst, _∙_}
-use mathlib.Core.Bool.{Bool, true, false, not, cond, _&&_, _||_}
+use mathlib.Core.Path.{_≡_, refl, sym, _∙_}
+use mathlib.Core.Bool.{Bool, true, false, not, _&&_, _||_}
 use mathlib.Core.List.{List}
 use mathlib.Core.Logic.{_⊎_, inl, inr, ⊎-elim}
-use Prim.Native.Nat.{ℕ, zero, suc, _+_, _≤_, _<_}
+use Prim.Native.Nat.{ℕ, _+_, _≤_, _<_}
 use lib.IntN.{ℤ}
-use lib.Dec.{eqb, leb}
+use lib.Dec.{eqb}
 use lib.ListN.{length, getD, set, replicate, length-replicate, getD-replicate, length-set}
 use lib.Seq.{getD-set-same, getD-set-other}
 use native.Mathlib.Omega.{arith}
-use native.Mathlib.Numerals.{add-one}
-use native.Mathlib.Decide.{ℕ-discrete, decLt}
+use native.Mathlib.Decide.{ℕ-discrete}
 use borrow.Author.Tests.{eq-eqb, ne-eqb, eqb-true}
 use Rattle.tables.specs.Scan.{allBelow}
-use Rattle.tables.proofs.Bools.{bool-cases, same-tests, true-false, tests, or-cases, or-true-left, or-true-right, and-left, and-right, not-flip}
-use Rattle.tables.proofs.Scans.{all-at, all-of, extend-one, below-suc}
+use Rattle.tables.proofs.Bools.{bool-cases, same-tests, tests, or-true-right, and-left, and-right}
+use Rattle.tables.proofs.Scans.{all-at, all-of, extend-one}
 use Rattle.words.specs.declared.Record.{Record}
-use Rattle.words.specs.Record.{word, unused}
 use Rattle.layout.specs.Tables.{fact}
-use Rattle.records.specs.Facts.{goodBounds, goodSet, goodDefault, agree, goodFact}
+use Rattle.records.specs.Facts.{goodBounds, goodSet, agree, goodFact}
 use Rattle.sheet_facts.specs.Maxes.{goodAlone, agrees, noted}
 
 -- an earlier fact of set x whose max is m

@@ -1,9 +1,9 @@
 -- The scan of the flows.
 -- Assumes nothing.
-use mathlib.Core.Path.{_≡_, refl, sym, subst, ap, _∙_}
+use mathlib.Core.Path.{_≡_, refl, sym, _∙_}
 use mathlib.Core.Bool.{Bool, true, false, _&&_}
 use mathlib.Core.List.{List}
-use Prim.Native.Nat.{ℕ, zero, suc, _+_, _≤_, _<_}
+use Prim.Native.Nat.{ℕ, _+_, _≤_, _<_}
 use lib.IntN.{ℤ}
 use lib.Dec.{eqb, leb}
 use native.Mathlib.Omega.{arith}
@@ -16,7 +16,7 @@ use Rattle.words.specs.declared.Record.{Record}
 use Rattle.words.specs.Record.{recordAt, unused}
 use Rattle.layout.specs.declared.Header.{Header}
 use Rattle.layout.specs.Header.{firstFlow}
-use Rattle.layout.specs.Groups.{goodGroup, goodGroups, stepCount, routeCount}
+use Rattle.layout.specs.Groups.{goodGroups, stepCount, routeCount}
 use Rattle.layout.specs.Tables.{flow, step}
 use Rattle.records.specs.Flows.{goodFlow, goodStep}
 

@@ -1,26 +1,24 @@
 -- The scan of the routes.
 -- Assumes nothing.
-use mathlib.Core.Path.{_≡_, refl, sym, subst, ap, _∙_}
-use mathlib.Core.Bool.{Bool, true, false, cond, _&&_}
+use mathlib.Core.Path.{_≡_, refl, sym, ap, _∙_}
+use mathlib.Core.Bool.{Bool, true, false}
 use mathlib.Core.List.{List}
 use Prim.Native.Nat.{ℕ, zero, suc, _+_, _≤_, _<_}
 use lib.IntN.{ℤ}
-use lib.Dec.{eqb}
 use native.Mathlib.Omega.{arith}
-use native.Mathlib.Numerals.{add-one}
 use native.Mathlib.Decide.{ℕ-discrete, decLt}
 use borrow.Author.Tests.{eq-eqb, ne-eqb}
 use Rattle.layout.proofs.Groups.{covers-steps, covers-routes}
 use Rattle.tables.specs.Scan.{sumBelow, firstFail}
-use Rattle.tables.proofs.Scans.{sum-zero, sum-more, sum-suc, sum-mono}
+use Rattle.tables.proofs.Scans.{sum-zero, sum-more, sum-mono}
 use Rattle.tables.proofs.Scanned.{step as one-more, fail-at, fail-none}
 use Rattle.words.specs.declared.Record.{Record}
 use Rattle.words.specs.Record.{number, recordAt}
 use Rattle.layout.specs.declared.Header.{Header}
 use Rattle.layout.specs.Header.{firstStep, firstRoute}
 use Rattle.layout.specs.Groups.{stepCount, routeCount}
-use Rattle.layout.specs.Tables.{flow, step, route}
-use Rattle.layout.proofs.Owners.{holder-is, end-is}
+use Rattle.layout.specs.Tables.{flow, step}
+use Rattle.layout.proofs.Owners.{holder-is}
 use Rattle.records.specs.Flows.{goodRoute, goodRouteOf, routesEnd, stepsEnd, flowOf, stepOf}
 use Rattle.sheet_flows.specs.declared.Cursor.{Cursor}
 use Rattle.sheet_flows.specs.Routes.{Ready, Room, At, Stretch, moved}

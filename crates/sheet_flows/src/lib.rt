@@ -1,11 +1,9 @@
 // The scans of the flows and of the routes.
 ghost use mathlib.Core.Path.{_≡_};
-ghost use mathlib.Core.Bool.{true, cond};
-ghost use Prim.Native.Nat.{_+_, _*_, _≤_, _<_};
-ghost use lib.Dec.{eqb};
+ghost use mathlib.Core.Bool.{true};
+ghost use Prim.Native.Nat.{_+_, _<_};
 ghost use Rattle.tables.specs.Scan.{firstFail};
 ghost use Rattle.words.specs.Record.{number};
-ghost use Rattle.layout.specs.Header.{firstFlow};
 ghost use Rattle.layout.specs.Sized.{Sized};
 ghost use Rattle.layout.specs.Groups.{goodGroups};
 ghost use Rattle.records.specs.Flows.{goodFlow, goodRoute};

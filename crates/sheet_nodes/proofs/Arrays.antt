@@ -7,8 +7,8 @@ use mathlib.Core.Logic.{_⊎_, ⊎-elim}
 use Prim.Native.Nat.{ℕ, _+_, _≤_, _<_}
 use lib.IntN.{ℤ, pos}
 use lib.Dec.{eqb, ltb}
-use lib.ListN.{length, getD, set, replicate, length-replicate, getD-replicate, length-set, List·getD-eq-default}
-use lib.Seq.{getD-set-same, getD-set-other}
+use lib.ListN.{length, getD, set, take, replicate, length-replicate, getD-replicate, length-set, length-take, List·getD-eq-default}
+use lib.Seq.{getD-set-same, getD-set-other, getD-take}
 use native.Mathlib.Omega.{arith}
 use native.Mathlib.Decide.{ℕ-discrete, decLt}
 use borrow.Author.Tests.{le-ltb}
@@ -63,6 +63,14 @@ module _ {A B : Type 0} (f : (ℕ → A) → ℕ → A) (z : A) (p : A → B) (d
           pick : Dec (j < n) → getD (replicate n d) j d ≡ d
           pick (yes q) = getD-replicate n j d d q
           pick (no q) = List·getD-eq-default (replicate n d) d (rw (length-replicate n d) (omega arith))
+
+-- the head of an array that holds g, where g is the default past it
+head-is : {A : Type 0} (t : List A) (d : A) (g : ℕ → A) (n : ℕ) → ((j : ℕ) → getD t j d ≡ g j) → ((j : ℕ) → n ≤ j → g j ≡ d) → (j : ℕ) → getD (take n t) j d ≡ g j
+head-is t d g n h z j = go (decLt j n)
+  where
+    go : Dec (j < n) → getD (take n t) j d ≡ g j
+    go (yes q) = getD-take n t j d q ∙ h j
+    go (no q) = List·getD-eq-default (take n t) d (omega (arith, length-take n t)) ∙ sym (z j (omega arith))
 
 -- ---- tests that do not look at what is missing
 
@@ -150,11 +158,30 @@ module _ (s : List ℤ) (h : Header) (n : ℕ) {lows highs : List ℤ} {types to
       go (yes q) = rw (grown-at (rangeStep s h) zero-span n j q) (good-both (span-good s h j (f .good j q)))
       go (no q) = rw (List·getD-eq-default (grown (rangeStep s h) zero-span n) zero-span {n = j} (rw (length-grown (rangeStep s h) zero-span n) (omega arith))) (zero-bounded, zero-bounded)
 
-  bounds : Bounds lows highs
-  bounds = record { low = λ j. rw (f .low j) (table-bounded j .0); high = λ j. rw (f .high j) (table-bounded j .1) }
+  table-past : (j : ℕ) → n ≤ j → table j ≡ zero-span
+  table-past j q = List·getD-eq-default (grown (rangeStep s h) zero-span n) zero-span (rw (length-grown (rangeStep s h) zero-span n) q)
 
-  child-is : (j : ℕ) → span (getD lows j (pos 0)) (getD highs j (pos 0)) ≡ table j
-  child-is j = rw (f .low j, f .high j)
+  -- the scan reads the entries of the nodes before n, and nothing past them
+  low-is : (j : ℕ) → getD (take n lows) j (pos 0) ≡ table j .low
+  low-is = head-is lows (pos 0) (λ j. table j .low) n (f .low) (λ j q. ap (λ (x : Range). x .low) (table-past j q))
+
+  high-is : (j : ℕ) → getD (take n highs) j (pos 0) ≡ table j .high
+  high-is = head-is highs (pos 0) (λ j. table j .high) n (f .high) (λ j q. ap (λ (x : Range). x .high) (table-past j q))
+
+  tops-is : (j : ℕ) → getD (take n tops) j 0 ≡ getD (grown (topStep s h) 0 n) j 0
+  tops-is = head-is tops 0 (λ j. getD (grown (topStep s h) 0 n) j 0) n (f .top) (λ j q. List·getD-eq-default (grown (topStep s h) 0 n) 0 (rw (length-grown (topStep s h) 0 n) q))
+
+  type-at : (j : ℕ) → j < n → getD (take n types) j 0 ≡ typeOf s h j
+  type-at j q = getD-take n types j 0 q ∙ f .type j q
+
+  name-at : n < h .nodes → (a : ℕ) → a < n → getD (take n named) a false ≡ namedByNodes s h n a
+  name-at l a q = getD-take n named a false q ∙ f .name a (omega (arith, f .space))
+
+  bounds : Bounds (take n lows) (take n highs)
+  bounds = record { low = λ j. rw (low-is j) (table-bounded j .0); high = λ j. rw (high-is j) (table-bounded j .1) }
+
+  child-is : (j : ℕ) → span (getD (take n lows) j (pos 0)) (getD (take n highs) j (pos 0)) ≡ table j
+  child-is j = rw (low-is j, high-is j)
 
   -- the definition's tests of node n
   abbrev children : Bool
@@ -164,19 +191,19 @@ module _ (s : List ℤ) (h : Header) (n : ℕ) {lows highs : List ℤ} {types to
   abbrev types-of : Bool
   types-of = goodTypes (nodeKind s h n) (node s h n .w1) (typeOf s h (leftOf s h n)) (typeOf s h (rightOf s h n))
 
-  fits-same : (x : Range) → n < h .nodes → fitsTests n (nodeKind s h n) (node s h n) x types named ≡ (children && types-of && goodSpan x)
+  fits-same : (x : Range) → n < h .nodes → fitsTests n (nodeKind s h n) (node s h n) x (take n types) (take n named) ≡ (children && types-of && goodSpan x)
   fits-same x l = rw same (⊎-elim yes′ no′ (bool-cases children))
     where
-      same : goodChildren n (hasLeft (nodeKind s h n)) (leftOf s h n) (getD named (leftOf s h n) false) (hasRight (nodeKind s h n)) (rightOf s h n) (getD named (rightOf s h n) false) ≡ children
-      same = children-same n (hasLeft (nodeKind s h n)) (leftOf s h n) _ _ (hasRight (nodeKind s h n)) (rightOf s h n) _ _ (λ q. f .name (leftOf s h n) (omega (arith, f .space))) (λ q. f .name (rightOf s h n) (omega (arith, f .space)))
+      same : goodChildren n (hasLeft (nodeKind s h n)) (leftOf s h n) (getD (take n named) (leftOf s h n) false) (hasRight (nodeKind s h n)) (rightOf s h n) (getD (take n named) (rightOf s h n) false) ≡ children
+      same = children-same n (hasLeft (nodeKind s h n)) (leftOf s h n) _ _ (hasRight (nodeKind s h n)) (rightOf s h n) _ _ (name-at l (leftOf s h n)) (name-at l (rightOf s h n))
 
       array-types : Bool
-      array-types = goodTypes (nodeKind s h n) (node s h n .w1) (getD types (leftOf s h n) 0) (getD types (rightOf s h n) 0)
+      array-types = goodTypes (nodeKind s h n) (node s h n .w1) (getD (take n types) (leftOf s h n) 0) (getD (take n types) (rightOf s h n) 0)
 
       yes′ : children ≡ true → (children && array-types && goodSpan x) ≡ (children && types-of && goodSpan x)
       yes′ e =
-          rw (types-same (nodeKind s h n) (node s h n .w1) (getD types (leftOf s h n) 0) (typeOf s h (leftOf s h n)) (getD types (rightOf s h n) 0) (typeOf s h (rightOf s h n))
-          (λ q. f .type (leftOf s h n) (left-below n _ _ _ _ _ _ e q)) (λ q. f .type (rightOf s h n) (right-below n _ _ _ _ _ _ e q)))
+          rw (types-same (nodeKind s h n) (node s h n .w1) (getD (take n types) (leftOf s h n) 0) (typeOf s h (leftOf s h n)) (getD (take n types) (rightOf s h n) 0) (typeOf s h (rightOf s h n))
+          (λ q. type-at (leftOf s h n) (left-below n _ _ _ _ _ _ e q)) (λ q. type-at (rightOf s h n) (right-below n _ _ _ _ _ _ e q)))
 
       no′ : children ≡ false → (children && array-types && goodSpan x) ≡ (children && types-of && goodSpan x)
       no′ e = rw e
@@ -193,18 +220,18 @@ module _ (s : List ℤ) (h : Header) (n : ℕ) {lows highs : List ℤ} {types to
       words : goodWords h k r (word s (h .facts + n) 1) ≡ true
       words = sym eg ∙ p
 
-      module _ {x : Range} (ex : x ≡ rangeFrom k (r .w1) (word s (h .facts + n) 1) (factSpan s h (r .w1)) (word s (h .facts + n) 2) (span (getD lows (left k r) (pos 0)) (getD highs (left k r) (pos 0))) (span (getD lows (right k r) (pos 0)) (getD highs (right k r) (pos 0)))) where
+      module _ {x : Range} (ex : x ≡ rangeFrom k (r .w1) (word s (h .facts + n) 1) (factSpan s h (r .w1)) (word s (h .facts + n) 2) (span (getD (take n lows) (left k r) (pos 0)) (getD (take n highs) (left k r) (pos 0))) (span (getD (take n lows) (right k r) (pos 0)) (getD (take n highs) (right k r) (pos 0)))) where
         pub range-is : x ≡ rangeOf s h n
         unfolding entry rangeStep
         range-is =
             rw (ex, child-is (left k r), child-is (right k r), range-fact s h k r (word s (h .facts + n) 1) (word s (h .facts + n) 1) (word s (h .facts + n) 2) (r .w1) (table (left k r)) (table (right k r)) words, kind-is, er)
 
         -- the tests from the arrays are the definition's
-        tests-are : fitsTests n k r x types named ≡ goodNode s h n
+        tests-are : fitsTests n k r x (take n types) (take n named) ≡ goodNode s h n
         unfolding goodNode
         tests-are = rw (range-is, kind-is, er) (rw (rw (kind-is, er) at words) (fits-same (rangeOf s h n) l))
 
-        module _ {b : Bool} (eb : b ≡ fitsTests n k r x types named) where
+        module _ {b : Bool} (eb : b ≡ fitsTests n k r x (take n types) (take n named)) where
           pub stop-tests : b ≡ false → goodNode s h n ≡ false
           stop-tests q = sym (sym q ∙ eb ∙ tests-are)
 
@@ -220,7 +247,7 @@ module _ (s : List ℤ) (h : Header) (n : ℕ) {lows highs : List ℤ} {types to
                 ∙ or-assoc (anyBelow (λ j. nodeNames s h j a) n) (hasLeft k && eqb (left k r) a) (hasRight k && eqb (right k r) a)
                 ∙ rw (any-more (λ j. nodeNames s h j a) n, kind-is, er)
 
-            pub again : {lo hi : ℤ} {t u : ℕ} {v : List Bool} → lo ≡ x .low → hi ≡ x .high → t ≡ typeFrom k r (factCode s h (r .w1)) → u ≡ topFrom k (r .w1) (getD tops (left k r) 0) (getD tops (right k r) 0)
+            pub again : {lo hi : ℤ} {t u : ℕ} {v : List Bool} → lo ≡ x .low → hi ≡ x .high → t ≡ typeFrom k r (factCode s h (r .w1)) → u ≡ topFrom k (r .w1) (getD (take n tops) (left k r) 0) (getD (take n tops) (right k r) 0)
                 → v ≡ marked (hasRight k) (right k r) (marked (hasLeft k) (left k r) named)
                 → Filled s h m w (n + 1) (set lows n lo) (set highs n hi) (set types n t) (set tops n u) v
             again el eh et eu ev =
@@ -258,21 +285,21 @@ module _ (s : List ℤ) (h : Header) (n : ℕ) {lows highs : List ℤ} {types to
                 type-is : typeFrom k r (factCode s h (r .w1)) ≡ typeOf s h n
                 type-is = type-fact s h k r (word s (h .facts + n) 1) words ∙ unfold typeOf in rw (kind-is, er)
 
-                top-is : topFrom k (r .w1) (getD tops (left k r) 0) (getD tops (right k r) 0) ≡ entry (topStep s h) 0 n
-                top-is = unfold entry topStep in rw (f .top (left k r), f .top (right k r), kind-is, er)
+                top-is : topFrom k (r .w1) (getD (take n tops) (left k r) 0) (getD (take n tops) (right k r) 0) ≡ entry (topStep s h) 0 n
+                top-is = unfold entry topStep in rw (tops-is (left k r), tops-is (right k r), kind-is, er)
 
   -- ---- from the entry that the scan finds
 
   module _ (z : Sized s h) (l : n < h .nodes) {r : Record} (er : r ≡ recordAt s (h .facts + n)) where
-    pub ready : ((j : ℕ) → j < h .facts → goodFact s j ≡ true) → Ready s h (h .facts + n) r lows highs
+    pub ready : ((j : ℕ) → j < h .facts → goodFact s j ≡ true) → Ready s h (h .facts + n) r (take n lows) (take n highs)
     ready q = record { sized = z; long = omega (arith, l, z .limits, z .long); words = er; bounds = bounds; facts = q }
 
-    module _ {e : Entry} (d : Found s h n (h .facts + n) (kindOf (r .w0)) r lows highs types tops named e) where
+    module _ {e : Entry} (d : Found s h n (h .facts + n) (kindOf (r .w0)) r (take n lows) (take n highs) (take n types) (take n tops) (take n named) e) where
       abbrev ok : Bool
       ok = goodWords h (kindOf (r .w0)) r (word s (h .facts + n) 1)
 
       abbrev fit : Bool
-      fit = fitsTests n (kindOf (r .w0)) r (spanFrom (kindOf (r .w0)) r (word s (h .facts + n) 1) (word s (h .facts + n) 2) (factSpan s h (r .w1)) lows highs) types named
+      fit = fitsTests n (kindOf (r .w0)) r (spanFrom (kindOf (r .w0)) r (word s (h .facts + n) 1) (word s (h .facts + n) 2) (factSpan s h (r .w1)) (take n lows) (take n highs)) (take n types) (take n named)
 
       pub stop : e .good ≡ false → goodNode s h n ≡ false
       stop p = ⊎-elim yes′ no′ (bool-cases ok)

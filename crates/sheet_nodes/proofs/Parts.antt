@@ -1,20 +1,20 @@
 -- Parts of good facts and nodes that the scan of the nodes relies on.
 -- Assumes nothing.
-use mathlib.Core.Path.{_≡_, refl, sym, _∙_}
-use mathlib.Core.Bool.{Bool, true, false, cond, _&&_}
+use mathlib.Core.Path.{_≡_, refl}
+use mathlib.Core.Bool.{true, false, cond}
 use mathlib.Core.List.{List}
 use mathlib.Core.Logic.{_⊎_, ⊎-elim}
-use Prim.Native.Nat.{ℕ, _+_, _≤_, _<_}
+use Prim.Native.Nat.{ℕ, _≤_}
 use lib.IntN.{ℤ, pos}
-use lib.Dec.{eqb, ltb, leb}
+use lib.Dec.{eqb, leb}
 use native.Mathlib.Omega.{arith}
 use borrow.Author.Tests.{lt-ltb}
-use Rattle.tables.proofs.Bools.{tests, bool-cases, and-left, and-right}
-use Rattle.signed.specs.Words.{bounded, num, big}
-use Rattle.signed.proofs.Bounds.{true-small, Small}
+use Rattle.tables.proofs.Bools.{tests, bool-cases}
+use Rattle.signed.specs.Words.{num}
+use Rattle.signed.proofs.Bounds.{true-small}
 use Rattle.signed.proofs.Numbers.{num-is}
 use Rattle.words.specs.declared.Record.{Record}
-use Rattle.words.specs.Record.{word, number, recordAt, unused}
+use Rattle.words.specs.Record.{word}
 use Rattle.layout.specs.declared.Header.{Header}
 use Rattle.layout.specs.Tables.{fact}
 use Rattle.node.specs.declared.Kind.{Kind}

@@ -440,7 +440,19 @@ pub fn check_nodes(
     while n < size {
         let at = h.facts + n;
         let r = record_at(s, at);
-        let e = node_entry(s, h, n, at, r, lows, highs, types, tops, named);
+        // A child stands before its parent: with arrays that end there, one comparison says so for all of them.
+        let e = node_entry(
+            s,
+            h,
+            n,
+            at,
+            r,
+            &lows[..n],
+            &highs[..n],
+            &types[..n],
+            &tops[..n],
+            &named[..n],
+        );
         if !e.good {
             return n;
         }

@@ -1,21 +1,21 @@
 -- A tree cites only lower rules exactly if the greatest rule that it cites is lower: strata never fall.
 -- Assumes nothing.
-use mathlib.Core.Path.{_≡_, refl, sym, subst, ap, ap₂, _∙_}
+use mathlib.Core.Path.{_≡_, refl, sym, ap, ap₂, _∙_}
 use mathlib.Core.Bool.{Bool, true, false, not, _&&_, _||_}
 use mathlib.Core.List.{List}
-use mathlib.Core.Logic.{_⊎_, inl, inr, ⊎-elim}
+use mathlib.Core.Logic.{_⊎_, ⊎-elim}
 use Prim.Native.Nat.{ℕ, zero, suc, _+_, _-_, _≤_, _<_, max}
 use lib.IntN.{ℤ}
 use lib.Dec.{leb, ltb, eqb}
 use lib.ListN.{getD}
 use native.Mathlib.Omega.{arith}
 use native.Mathlib.Decide.{ℕ-discrete, decLt, decLe}
-use borrow.Author.Tests.{eq-eqb, ne-eqb, le-leb, lt-leb, lt-ltb, le-ltb, eqb-true, leb-true, ltb-true}
+use borrow.Author.Tests.{ne-eqb, le-leb, lt-leb, lt-ltb, le-ltb, eqb-true, leb-true}
 use Rattle.tables.specs.Table.{grown, entry}
-use Rattle.tables.proofs.Bools.{tests, same-tests, and-true, and-left, and-right, and-yes, or-cases, or-true-left, or-true-right, bool-cases}
+use Rattle.tables.proofs.Bools.{tests, same-tests, and-true, and-left, and-right, and-yes, or-cases, or-true-right}
 use Rattle.tables.proofs.Grown.{grown-at}
 use Rattle.layout.specs.declared.Header.{Header}
-use Rattle.layout.specs.Tables.{node, rule}
+use Rattle.layout.specs.Tables.{node}
 use Rattle.node.specs.declared.Kind.{Kind}
 use Rattle.node.specs.declared.Kind.the-variants.{IntLiteral, BoolLiteral, EnumLiteral, Fact, Sum, Difference, Product, Comparison, Verdict, And, Or, Not, Unknown}
 use Rattle.node.specs.Kinds.{hasLeft, hasRight}

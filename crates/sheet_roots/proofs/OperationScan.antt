@@ -1,7 +1,7 @@
 -- The scan of the operations.
 -- Assumes nothing.
 use mathlib.Core.Path.{_≡_, refl, sym, subst, ap, _∙_}
-use mathlib.Core.Bool.{Bool, true, false, not, _&&_, _||_}
+use mathlib.Core.Bool.{Bool, true, false, _&&_, _||_}
 use mathlib.Core.List.{List}
 use Prim.Native.Nat.{ℕ, _+_, _≤_, _<_}
 use lib.IntN.{ℤ}
@@ -10,7 +10,7 @@ use native.Mathlib.Omega.{arith}
 use Rattle.layout.proofs.Groups.{covers-effects}
 use Rattle.tables.specs.Scan.{anyBelow, sumBelow, firstFail}
 use Rattle.tables.specs.Table.{marked}
-use Rattle.tables.proofs.Bools.{tests, or-assoc}
+use Rattle.tables.proofs.Bools.{or-assoc}
 use Rattle.tables.proofs.Scans.{any-more, any-zero, extend-one, sum-zero, sum-more, sum-mono}
 use Rattle.tables.proofs.Scanned.{fail-at, fail-none}
 use Rattle.tables.proofs.Entries.{or-false}
@@ -18,9 +18,9 @@ use Rattle.words.specs.declared.Record.{Record}
 use Rattle.words.specs.Record.{recordAt, unused}
 use Rattle.layout.specs.declared.Header.{Header}
 use Rattle.layout.specs.Header.{firstOperation}
-use Rattle.layout.specs.Groups.{effectCount, goodGroup, goodGroups}
+use Rattle.layout.specs.Groups.{effectCount, goodGroups}
 use Rattle.layout.specs.Tables.{operation}
-use Rattle.records.specs.Names.{namedByRules, namedByOperations, goodRoot}
+use Rattle.records.specs.Names.{namedByRules, namedByOperations}
 use Rattle.records.specs.Operations.{goodMask, goodOperation}
 use Rattle.sheet_roots.specs.Roots.{Typed, Names, rootTest}
 use Rattle.sheet_roots.proofs.Roots.{root-is, name-more, renamed}

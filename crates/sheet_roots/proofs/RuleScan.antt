@@ -1,18 +1,16 @@
 -- The scan of the rules.
 -- Assumes nothing.
 use mathlib.Core.Path.{_≡_, refl, sym, subst, ap, _∙_}
-use mathlib.Core.Bool.{Bool, true, false, not, _&&_, _||_}
+use mathlib.Core.Bool.{Bool, true, false, _&&_, _||_}
 use mathlib.Core.List.{List}
-use mathlib.Core.Logic.{_⊎_, inl, inr, ⊎-elim}
 use Prim.Native.Nat.{ℕ, _+_, _-_, _≤_, _<_}
 use lib.IntN.{ℤ}
-use lib.Dec.{leb, ltb, eqb}
-use lib.ListN.{length, getD}
+use lib.Dec.{leb, eqb}
+use lib.ListN.{getD}
 use native.Mathlib.Omega.{arith}
-use native.Mathlib.Decide.{decLt}
 use Rattle.tables.specs.Scan.{anyBelow, firstFail}
 use Rattle.tables.specs.Table.{marked}
-use Rattle.tables.proofs.Bools.{tests, bool-cases, and-no, and-false-left, and-false-right, or-assoc}
+use Rattle.tables.proofs.Bools.{tests, and-no, or-assoc}
 use Rattle.tables.proofs.Scans.{any-more, any-zero, extend-one}
 use Rattle.tables.proofs.Scanned.{fail-at, fail-none}
 use Rattle.tables.proofs.Entries.{or-false}

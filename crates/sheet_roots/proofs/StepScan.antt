@@ -1,16 +1,16 @@
 -- The scan of the steps.
 -- Assumes nothing.
-use mathlib.Core.Path.{_≡_, refl, sym, subst, ap, _∙_}
-use mathlib.Core.Bool.{Bool, true, false, not, cond, _&&_, _||_}
+use mathlib.Core.Path.{_≡_, refl, sym, ap, _∙_}
+use mathlib.Core.Bool.{Bool, true, false, _&&_, _||_}
 use mathlib.Core.List.{List}
 use Prim.Native.Nat.{ℕ, _+_, _≤_, _<_}
 use lib.IntN.{ℤ}
-use lib.Dec.{leb, eqb}
+use lib.Dec.{eqb}
 use native.Mathlib.Omega.{arith}
 use Rattle.layout.proofs.Groups.{covers-routes}
 use Rattle.tables.specs.Scan.{anyBelow, sumBelow, firstFail}
 use Rattle.tables.specs.Table.{marked}
-use Rattle.tables.proofs.Bools.{tests, or-assoc}
+use Rattle.tables.proofs.Bools.{or-assoc}
 use Rattle.tables.proofs.Scans.{any-more, any-zero, extend-one, sum-zero, sum-more, sum-mono}
 use Rattle.tables.proofs.Scanned.{fail-at, fail-none}
 use Rattle.tables.proofs.Entries.{or-false}
@@ -18,9 +18,9 @@ use Rattle.words.specs.declared.Record.{Record}
 use Rattle.words.specs.Record.{recordAt, unused}
 use Rattle.layout.specs.declared.Header.{Header}
 use Rattle.layout.specs.Header.{firstStep}
-use Rattle.layout.specs.Groups.{routeCount, goodGroup, goodGroups}
+use Rattle.layout.specs.Groups.{routeCount, goodGroups}
 use Rattle.layout.specs.Tables.{step}
-use Rattle.records.specs.Names.{namedByOperations, namedBySteps, goodRoot}
+use Rattle.records.specs.Names.{namedByOperations, namedBySteps}
 use Rattle.records.specs.Flows.{goodStep, goodBranchStep}
 use Rattle.sheet_roots.specs.Roots.{Typed, Names, rootTest, kindTest}
 use Rattle.sheet_roots.proofs.Roots.{root-is, name-more, renamed}

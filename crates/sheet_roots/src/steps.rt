@@ -1,7 +1,7 @@
 // The scan of the steps.
 ghost use mathlib.Core.Path.{_≡_};
 ghost use mathlib.Core.Bool.{true};
-ghost use Prim.Native.Nat.{ℕ, _<_, _≤_};
+ghost use Prim.Native.Nat.{ℕ, _<_};
 ghost use lib.ListN.{length};
 ghost use Rattle.tables.specs.Scan.{firstFail};
 ghost use Rattle.layout.specs.Sized.{Sized};

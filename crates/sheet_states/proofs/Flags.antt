@@ -1,19 +1,17 @@
 -- The flags of declared transitions, one transition after the other.
 -- Assumes nothing.
-use mathlib.Core.Path.{_≡_, refl, sym, subst, _∙_}
+use mathlib.Core.Path.{_≡_, sym, _∙_}
 use mathlib.Core.Bool.{Bool, true, false, _&&_, _||_}
 use mathlib.Core.List.{List}
 use mathlib.Core.Logic.{⊎-elim}
 use Prim.Native.Nat.{ℕ, _+_, _*_, _≤_, _<_}
 use lib.IntN.{ℤ}
-use lib.Dec.{eqb}
-use lib.ListN.{length, getD, set, replicate, length-replicate, getD-replicate, length-set}
+use lib.ListN.{getD, set, replicate, length-replicate, getD-replicate, length-set}
 use lib.Seq.{getD-set-same, getD-set-other}
 use native.Mathlib.Omega.{arith}
 use native.Mathlib.Decide.{ℕ-discrete}
-use borrow.Author.Tests.{eq-eqb, ne-eqb}
-use Rattle.tables.specs.Scan.{anyBelow}
-use Rattle.tables.proofs.Bools.{tests, bool-cases, and-left, and-right, true-false}
+use borrow.Author.Tests.{eq-eqb}
+use Rattle.tables.proofs.Bools.{tests, bool-cases, and-left}
 use Rattle.tables.proofs.Scans.{any-more, any-zero, extend-one}
 use Rattle.tables.proofs.Entries.{or-false, or-true}
 use Rattle.words.specs.declared.Record.{Record}

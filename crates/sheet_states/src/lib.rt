@@ -1,5 +1,4 @@
-// The scans of the entities, of the transitions and of the effects. A flag for each (entity, from, to) says whether that transition is
-// declared.
+// The scans of the entities and of the transitions. A flag for each (entity, from, to) says whether that transition is declared.
 ghost use mathlib.Core.Path.{_≡_};
 ghost use mathlib.Core.Bool.{true, false};
 ghost use Prim.Native.Nat.{ℕ, _+_, _*_, _≤_, _<_};

@@ -5,12 +5,12 @@ use Prim.Native.Nat.{ℕ, zero, suc, _+_, _-_, _^_, _≤_, _<_}
 use native.Mathlib.Omega.{arith}
 use lib.Dec.{T, leb, eqb}
 use lib.IntN.{ℤ, pos, negsuc, natAbs, _+ℤ_, _-ℤ_}
-use lib.Signed.{mag, nonNeg, ltZ}
+use lib.Signed.{nonNeg, ltZ}
 use mir.Syntax.{w64}
 use mir.Val.{Fits, SFits}
 use borrow.Author.Tests.{lt-leb, ne-eqb}
 use Rattle.signed.specs.Words.{eqZ, within, num}
-use Rattle.signed.proofs.Parts.{Le, Lt, lt-true, ext, plus-parts, minus-parts}
+use Rattle.signed.proofs.Parts.{Le, lt-true, ext, plus-parts, minus-parts}
 use Rattle.signed.proofs.Bounds.{In}
 
 pub num-of : (n : ℕ) → num (pos n) ≡ n

@@ -1,15 +1,12 @@
 -- The first number that fails a test: what a scan of a stretch of numbers answers.
 -- Assumes nothing.
-use mathlib.Core.Path.{_≡_, refl, sym, ap, subst, _∙_}
+use mathlib.Core.Path.{_≡_, refl, sym, subst}
 use mathlib.Core.Bool.{Bool, true, false}
-use mathlib.Core.Logic.{_⊎_, inl, inr, ⊎-elim}
 use Prim.Native.Nat.{ℕ, zero, suc, _+_, _-_, _≤_, _<_}
 use native.Mathlib.Omega.{arith}
-use native.Mathlib.Nat.{add-suc, suc-add, add-zero}
 use native.Mathlib.Decide.{decLt}
 use Rattle.tables.specs.Scan.{firstFail}
-use Rattle.tables.proofs.Bools.{true-false, bool-cases}
-use Rattle.tables.proofs.Scans.{extend}
+use Rattle.tables.proofs.Bools.{true-false}
 
 -- k is the first number of from..to that fails f, or `to` where none does
 pub record Scanned (f : ℕ → Bool) (from to k : ℕ) : Type 0 where

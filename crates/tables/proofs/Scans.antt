@@ -1,14 +1,14 @@
 -- Laws of the tests and sums over the numbers below a bound.
 -- Assumes nothing.
-use mathlib.Core.Path.{_≡_, refl, sym, ap, subst, _∙_}
+use mathlib.Core.Path.{_≡_, refl, sym, subst}
 use mathlib.Core.Bool.{Bool, true, false, _&&_, _||_}
 use mathlib.Core.Logic.{_⊎_, inl, inr, ⊎-elim}
 use Prim.Native.Nat.{ℕ, zero, suc, _+_, _-_, _≤_, _<_}
 use native.Mathlib.Omega.{arith}
 use native.Mathlib.Numerals.{add-one}
 use native.Mathlib.Decide.{decLt}
-use Rattle.tables.specs.Scan.{allBelow, anyBelow, sumBelow, firstFail}
-use Rattle.tables.proofs.Bools.{and-left, and-right, and-true, or-cases, or-true-left, or-true-right, or-false-left, or-false-right, true-false, bool-cases, same-tests}
+use Rattle.tables.specs.Scan.{allBelow, anyBelow, sumBelow}
+use Rattle.tables.proofs.Bools.{and-left, and-right, and-true, or-cases, or-true-left, or-true-right, or-false-left, or-false-right, true-false, bool-cases}
 
 -- a number below suc n is below n or is n
 pub below-suc : (j n : ℕ) → j < suc n → (j < n) ⊎ (j ≡ n)

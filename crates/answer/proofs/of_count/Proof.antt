@@ -1,8 +1,6 @@
 -- `answer::of_count` meets its contract, case by case. Assumes nothing.
 use lib.Dec.{lit<}
 use borrow.Author.Needs.{needs}
-use mathlib.Core.Path.{_∙_, sym, ap}
-use Rattle.answer.specs.Answers.{SmallCount}
 use Rattle.answer.proofs.of_count.Statement.{statement}
 use Rattle.answer.proofs.of_count.Tie as tie
 

@@ -1,7 +1,5 @@
 -- `answer::of_status` meets its contract, case by case. Assumes nothing.
 use borrow.Author.Needs.{needs}
-use mathlib.Core.Path.{_∙_, sym, ap}
-use Rattle.answer.specs.Answers.{SmallStatus}
 use Rattle.answer.proofs.of_status.Statement.{statement}
 use Rattle.answer.proofs.of_status.Tie as tie
 

@@ -1,7 +1,5 @@
 -- `answer::of_walk` meets its contract, case by case. Assumes nothing.
 use borrow.Author.Needs.{needs}
-use mathlib.Core.Path.{_∙_, sym, ap}
-use Rattle.answer.specs.Answers.{SmallWalk}
 use Rattle.answer.proofs.of_walk.Statement.{statement}
 use Rattle.answer.proofs.of_walk.Tie as tie
 

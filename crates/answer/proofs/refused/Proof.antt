@@ -1,7 +1,6 @@
 -- `answer::refused` meets its contract: the four numbers are the callees' results. Assumes nothing.
 use borrow.Author.Needs.{needs}
 use native.Mathlib.Omega.{arith}
-use mathlib.Core.Path.{_≡_, refl, ap, _∙_}
 use mir.Syntax.{w64}
 use mir.ValLaws.{toZ-ofZ}
 use Rattle.answer.specs.Number.{number-small}

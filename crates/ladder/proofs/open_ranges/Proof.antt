@@ -1,5 +1,5 @@
 -- `ladder::open_ranges` meets its contract: the checker's answer, and the header of an accepted sheet. Assumes nothing.
-use mathlib.Core.Path.{sym, ap, _∙_}
+use mathlib.Core.Path.{sym, _∙_}
 use Rattle.layout.proofs.Limits.{sixteen}
 use Rattle.records.proofs.Acceptance.{header-good}
 use Rattle.ladder.proofs.Climb.{opened-done, opened-not, not-accepted}

@@ -1,6 +1,7 @@
 -- `reach::scan` meets its contract: the flags say where the transitions passed lead. Assumes nothing.
+use native.Mathlib.Omega.{arith}
 use Prim.Native.Nat.{_-_}
-use Rattle.reach.proofs.Spreading.{Spreading, none, more, done}
+use Rattle.reach.proofs.Spreading.{Spreading, to-few, none, more, done}
 use borrow.Author.Needs.{needs}
 use Rattle.reach.proofs.scan.Statement.{statement}
 use Rattle.reach.proofs.scan.Tie as tie
@@ -26,8 +27,8 @@ record-at-requires c κs = search needs
 leaves-requires : tie.Need-leaves-requires Inv-loop μ-loop
 leaves-requires c κs = search needs
 
-mark-requires : tie.Need-mark-requires Inv-loop μ-loop
-mark-requires c κs = search needs
+slice-write-found : tie.Need-slice-write-found Inv-loop μ-loop
+slice-write-found c = omega (arith, c .before .before .before .before .before .loop .inv .long, to-few (c .before .before .before .before .before .before .before .before .pre .0) (c .before .before .before .if1 .taken) (c .before .before .before .before .before .before .first-transition .ensures) (c .before .before .record-at .ensures))
 
 add-k : tie.Need-add-k Inv-loop μ-loop
 add-k c = search needs
@@ -36,7 +37,16 @@ loop-less : tie.Need-loop-less Inv-loop μ-loop
 loop-less c = search needs
 
 loop-again : tie.Need-loop-again Inv-loop μ-loop
-loop-again c = more _ _ _ _ _ _ _ (c .before .before .before .before .before .before .before .before .loop .inv) _ _ _ _ (c .before .before .before .before .before .before .if1 .taken) (c .before .before .before .before .before .before .before .before .before .first-transition .ensures) (c .before .before .before .before .before .record-at .ensures) (c .before .before .before .leaves .ensures) (c .before .before .mark .ensures)
+loop-again c = more _ _ _ _ _ _ _ (c .before .before .before .before .before .loop .inv) _ _ _ _ (c .before .before .before .if1 .taken) (c .before .before .before .before .before .before .first-transition .ensures) (c .before .before .record-at .ensures) (c .before .leaves .ensures) (rw (c .if2 .taken))
+
+add-k-2 : tie.Need-add-k-2 Inv-loop μ-loop
+add-k-2 c = search needs
+
+loop-less-2 : tie.Need-loop-less-2 Inv-loop μ-loop
+loop-less-2 c = search needs
+
+loop-again-2 : tie.Need-loop-again-2 Inv-loop μ-loop
+loop-again-2 c = more _ _ _ _ _ _ _ (c .before .before .before .before .before .loop .inv) _ _ _ _ (c .before .before .before .if1 .taken) (c .before .before .before .before .before .before .first-transition .ensures) (c .before .before .record-at .ensures) (c .before .leaves .ensures) (rw (c .if2 .left))
 
 same-length : tie.Need-same-length Inv-loop μ-loop
 same-length c = search needs
@@ -55,9 +65,12 @@ scan-spec =
     add-record-at
     record-at-requires
     leaves-requires
-    mark-requires
+    slice-write-found
     add-k
     loop-less
     loop-again
+    add-k-2
+    loop-less-2
+    loop-again-2
     same-length
     returns)

@@ -1,7 +1,6 @@
 -- `sheet::few_nodes` meets its contract. Assumes nothing.
 use Rattle.layout.specs.Header.{headerOf}
 use borrow.Author.Tests.{lt-ltb, le-ltb}
-use native.Mathlib.Omega.{arith}
 use borrow.Author.Needs.{needs}
 use Rattle.sheet.proofs.few_nodes.Statement.{statement}
 use Rattle.sheet.proofs.few_nodes.Tie as tie

@@ -1,5 +1,4 @@
 -- `sheet_effects::check_effects` meets its contract. Assumes nothing.
-use mathlib.Core.Path.{sym}
 use Rattle.sheet_effects.proofs.Scan.{Walk, set-out, group, lent, end-inside, onward, found, arrived}
 use native.Mathlib.Omega.{arith}
 use lib.ListN.{length}

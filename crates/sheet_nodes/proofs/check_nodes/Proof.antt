@@ -9,6 +9,7 @@ use borrow.Author.Tests.{not-false}
 use native.Mathlib.Omega.{arith}
 use mathlib.Core.Path.{sym, _∙_}
 use lib.ListN.{length}
+use lib.Seq.{length-take-le}
 use Prim.Native.Nat.{_-_, _≤_}
 use borrow.Author.Needs.{needs}
 use Rattle.sheet_nodes.proofs.check_nodes.Statement.{statement}
@@ -28,6 +29,36 @@ add-at c = search needs
 
 record-at-requires : tie.Need-record-at-requires Inv-loop μ-loop
 record-at-requires c κs = search needs
+
+slice-reshare-prefix-node-entry : tie.Need-slice-reshare-prefix-node-entry Inv-loop μ-loop
+slice-reshare-prefix-node-entry c = search needs
+
+slice-aggregate-node-entry : tie.Need-slice-aggregate-node-entry Inv-loop μ-loop
+slice-aggregate-node-entry c = sym (length-take-le _ _ (search needs))
+
+slice-reshare-prefix-node-entry-2 : tie.Need-slice-reshare-prefix-node-entry-2 Inv-loop μ-loop
+slice-reshare-prefix-node-entry-2 c = search needs
+
+slice-aggregate-node-entry-2 : tie.Need-slice-aggregate-node-entry-2 Inv-loop μ-loop
+slice-aggregate-node-entry-2 c = sym (length-take-le _ _ (search needs))
+
+slice-reshare-prefix-node-entry-3 : tie.Need-slice-reshare-prefix-node-entry-3 Inv-loop μ-loop
+slice-reshare-prefix-node-entry-3 c = search needs
+
+slice-aggregate-node-entry-3 : tie.Need-slice-aggregate-node-entry-3 Inv-loop μ-loop
+slice-aggregate-node-entry-3 c = sym (length-take-le _ _ (search needs))
+
+slice-reshare-prefix-node-entry-4 : tie.Need-slice-reshare-prefix-node-entry-4 Inv-loop μ-loop
+slice-reshare-prefix-node-entry-4 c = search needs
+
+slice-aggregate-node-entry-4 : tie.Need-slice-aggregate-node-entry-4 Inv-loop μ-loop
+slice-aggregate-node-entry-4 c = sym (length-take-le _ _ (search needs))
+
+slice-reshare-prefix-node-entry-5 : tie.Need-slice-reshare-prefix-node-entry-5 Inv-loop μ-loop
+slice-reshare-prefix-node-entry-5 c = search needs
+
+slice-aggregate-node-entry-5 : tie.Need-slice-aggregate-node-entry-5 Inv-loop μ-loop
+slice-aggregate-node-entry-5 c = sym (length-take-le _ _ (search needs))
 
 node-entry-requires : tie.Need-node-entry-requires Inv-loop μ-loop
 node-entry-requires c κs = ready _ _ _ (c .before .before .before .before .before .before .before .before .loop .inv .1) (c .before .before .before .before .before .before .before .before .before .before .before .before .pre .0) (c .before .before .before .before .before .before .before .loop-test .taken) (c .before .before .before .before .before .record-at .ensures) (c .before .before .before .before .before .before .before .before .before .before .before .before .pre .1)
@@ -116,6 +147,16 @@ check-nodes-spec =
     loop-holds
     add-at
     record-at-requires
+    slice-reshare-prefix-node-entry
+    slice-aggregate-node-entry
+    slice-reshare-prefix-node-entry-2
+    slice-aggregate-node-entry-2
+    slice-reshare-prefix-node-entry-3
+    slice-aggregate-node-entry-3
+    slice-reshare-prefix-node-entry-4
+    slice-aggregate-node-entry-4
+    slice-reshare-prefix-node-entry-5
+    slice-aggregate-node-entry-5
     node-entry-requires
     same-length
     same-length-2

@@ -1,5 +1,4 @@
 -- `sheet_nodes::name_children` meets its contract. Assumes nothing.
-use mathlib.Core.Path.{_∙_}
 use borrow.Author.Needs.{needs}
 use Rattle.sheet_nodes.proofs.name_children.Statement.{statement}
 use Rattle.sheet_nodes.proofs.name_children.Tie as tie
