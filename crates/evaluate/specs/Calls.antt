@@ -44,7 +44,7 @@ verdictsBuffer s values given buffer =
       | Refused r ↦ buffer
     ]
 
--- ---- operate: 1 to 8, then persona, precondition and states over the facts and "verdicts that operations work out themselves"
+-- ---- operate: 1 to 8, then persona, precondition and states; "operations and flows work out verdicts themselves"
 
 unfoldable pub operateLadder : List ℤ → List ℤ → List ℤ → List ℤ → ℤ → ℤ → Status
 operateLadder s values given states p o =

@@ -1,29 +1,32 @@
 -- Demand 3 of the public calls: over every list of first and next that starts with a first, and of every run by itself.
 -- Assumes nothing.
-use mathlib.Core.Path.{_≡_, refl, _∙_}
+use mathlib.Core.Path.{_≡_, refl, ap, _∙_}
 use mathlib.Core.List.{List, [], _∷_}
-use Prim.Native.Nat.{ℕ, suc}
-use lib.IntN.{ℤ}
-use lib.ListN.{length}
+use Prim.Native.Nat.{ℕ, zero, suc, _≤_, _<_}
+use lib.IntN.{ℤ, pos, natAbs}
+use lib.ListN.{length, take}
 use native.Mathlib.Omega.{arith}
+use native.Mathlib.Decide.{decLt}
 use borrow.Author.Tests.{ltb-true, le-leb}
 use Rattle.signed.specs.Words.{num}
 use Rattle.answer.specs.declared.Status.{Status}
 use Rattle.answer.specs.declared.Status.the-variants.{Done, Refused}
-use Rattle.answer.specs.declared.Walk.the-variants.{Path as Walked}
+use Rattle.answer.specs.Answers.{walkAnswer}
+use Rattle.answer.specs.declared.Walk.{Walk}
+use Rattle.answer.specs.declared.Walk.the-variants.{Path as Walked, Refused as NoWalk}
 use Rattle.layout.specs.Header.{headerOf}
 use Rattle.records.proofs.Acceptance.{accepted}
 use Rattle.facts.specs.Assembled.{assembled}
 use Rattle.predicate.specs.Verdicts.{verdictsOf}
-use Rattle.listing.specs.Paths.{stepsOf}
+use Rattle.listing.specs.Paths.{stepsOf, paths, PathList}
 use Rattle.listing.specs.Calls.{Lent}
-use Rattle.listing.specs.Lists.{Call, First, Next, State, called, calledOn, nexts, Listed}
-use Rattle.listing.proofs.Listing.{calls-listed, listing, held-length}
+use Rattle.listing.specs.Lists.{Call, First, Next, State, called, calledOn, nexts, count, Listed, readOff}
+use Rattle.listing.proofs.Listing.{calls-listed, listing, held-length, listing-whole, listing-paths}
 use Rattle.run.specs.Runs.{ran, runPath}
 use Rattle.run.proofs.RunPaths.{run-listed}
 use Rattle.ladder.proofs.Climb.{ladder-open, all-passed}
 use Rattle.flows.specs.Calls.{flowLadder, firstCall, firstLeft, nextCall, nextLeft, runLadder, runCall, runPathLeft}
-use Rattle.flows.specs.PublicLists.{publicCall, publicCalls, Listable, TookPath}
+use Rattle.flows.specs.PublicLists.{publicCall, publicCalls, publicReadOff, ListedNumbers, Listable, TookPath}
 use Rattle.flows.proofs.FlowCallLaws.{path-judged, runnable, gone}
 
 -- ---- lists of calls
@@ -45,6 +48,15 @@ module _ {s : List ℤ} {f : ℤ} {b : List ℕ} (u : Listable s f b) where
   call-below c e First = let z = passes c e in rw (z, publicCall, firstCall, firstLeft)
   call-below c e Next = let z = passes c e in rw (z, publicCall, nextCall, nextLeft)
 
+  -- what is listed, in 01's numbers
+  in-numbers : (n : ℕ) (t : State) → Listed s (headerOf s) (num f) b n t → ListedNumbers s f b n t
+  in-numbers n t r =
+      record { holds = r .holds; refused = (λ e. none e (decLt n (count s (headerOf s) (num f))), λ l. rw (r .refused .1 l)); answers = λ l. ap walkAnswer (r .answers l) }
+    where
+      none : walkAnswer (t .answer) .refusal ≡ pos 13 → Dec (n < count s (headerOf s) (num f)) → count s (headerOf s) (num f) ≤ n
+      none e (yes l) = let z : _≡_ {A = ℤ} (pos 0) (pos 13) = rw (r .answers l) at e in absurd (omega (arith, ap natAbs z))
+      none e (no l) = omega arith
+
   -- one call keeps what holds along a list
   one-listed : (n : ℕ) (t : State) → Listed s (headerOf s) (num f) b n t → (k : Call)
       → Listed s (headerOf s) (num f) b (nexts n (k ∷ [])) (publicCall s f (t .buffer) k)
@@ -63,6 +75,34 @@ module _ {s : List ℤ} {f : ℤ} {b : List ℕ} (u : Listable s f b) where
   unfolding nexts calledOn
   public-listing cs =
       rest-listed 0 (publicCall s f b First) (rw (call-below b refl First) (listing listable-lent [])) cs
+
+  -- the same in 01's numbers
+  pub public-numbers : (cs : List Call) → ListedNumbers s f b (nexts 0 (First ∷ cs)) (publicCalls s f (publicCall s f b First) cs)
+  public-numbers cs = in-numbers (nexts 0 (First ∷ cs)) (publicCalls s f (publicCall s f b First) cs) (public-listing cs)
+
+  -- ---- a first and then nexts until one is refused
+
+  read-same : (k n : ℕ) (t : State) → Listed s (headerOf s) (num f) b n t → publicReadOff s f k t ≡ readOff s (headerOf s) (num f) k t
+  unfolding publicReadOff readOff
+  read-same zero n t r = refl
+  read-same (suc k) n t r =
+      go (t .answer) refl
+      (read-same k (nexts n (Next ∷ [])) (publicCall s f (t .buffer) Next) (one-listed n t r Next)
+      ∙ ap (readOff s (headerOf s) (num f) k) (call-below (t .buffer) (held-length listable-lent n t r) Next))
+    where
+      go : (a : Walk) → t .answer ≡ a
+          → publicReadOff s f k (publicCall s f (t .buffer) Next) ≡ readOff s (headerOf s) (num f) k (called s (headerOf s) (num f) (t .buffer) Next)
+          → publicReadOff s f (suc k) t ≡ readOff s (headerOf s) (num f) (suc k) t
+      go (Walked e m) q after = rw (q, publicReadOff, readOff) (ap (λ (z : List (List ℕ)). take m (t .buffer) ∷ z) after)
+      go (NoWalk x) q after = rw (q, publicReadOff, readOff)
+
+  -- the paths read off the buffer are the flow's list of paths, which is every path, each once, in order
+  pub public-whole : (k : ℕ) → count s (headerOf s) (num f) < k
+      → (publicReadOff s f k (publicCall s f b First) ≡ paths s (headerOf s) (num f)) × PathList s (headerOf s) (num f) (publicReadOff s f k (publicCall s f b First))
+  unfolding publicCalls nexts
+  public-whole k q =
+      let e = read-same k 0 (publicCall s f b First) (public-listing []) ∙ ap (readOff s (headerOf s) (num f) k) (call-below b refl First) in
+      (e ∙ listing-whole listable-lent k q, rw e (listing-paths listable-lent k q))
 
 -- ---- runs
 

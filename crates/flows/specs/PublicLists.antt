@@ -3,16 +3,19 @@
 use mathlib.Core.Path.{_≡_}
 use mathlib.Core.Bool.{true}
 use mathlib.Core.List.{List, [], _∷_}
-use Prim.Native.Nat.{ℕ, _≤_}
-use lib.IntN.{ℤ}
-use lib.ListN.{length}
+use mathlib.Core.Logic.{_↔_}
+use Prim.Native.Nat.{ℕ, zero, suc, _-_, _≤_, _<_, min}
+use lib.IntN.{ℤ, pos}
+use lib.ListN.{length, take}
 use Rattle.signed.specs.Words.{num}
+use Rattle.answer.specs.Answers.{walkAnswer}
 use Rattle.answer.specs.declared.Status.the-variants.{Done}
+use Rattle.answer.specs.declared.Walk.the-variants.{Path as Walked, Refused as NoWalk}
 use Rattle.layout.specs.Header.{headerOf}
 use Rattle.records.specs.Accept.{checked}
-use Rattle.listing.specs.Paths.{stepsOf, paths, At}
+use Rattle.listing.specs.Paths.{stepsOf, paths, path, At}
 use Rattle.listing.specs.Calls.{walkOf, laid}
-use Rattle.listing.specs.Lists.{Call, First, Next, State}
+use Rattle.listing.specs.Lists.{Call, First, Next, State, count}
 use Rattle.ladder.specs.Ladder.{exists}
 use Rattle.flows.specs.Calls.{firstCall, firstLeft, nextCall, nextLeft, runCall, runPathLeft}
 
@@ -25,6 +28,21 @@ publicCall s f b Next = record { buffer = nextLeft s f b; answer = nextCall s f 
 unfoldable pub publicCalls : List ℤ → ℤ → State → List Call → State
 publicCalls s f t [] = t
 publicCalls s f t (c ∷ cs) = publicCalls s f (publicCall s f (t .buffer) c) cs
+
+-- the same in 01's numbers, as the exports answer them: refusal 13 exactly when there is no path n, else that path's terminal and length
+pub record ListedNumbers (s : List ℤ) (f : ℤ) (b : List ℕ) (n : ℕ) (t : State) : Type 0 where
+  pub holds : t .buffer ≡ laid (path s (headerOf s) (num f) (min n (count s (headerOf s) (num f) - 1))) b
+  pub refused : (walkAnswer (t .answer) .refusal ≡ pos 13) ↔ (count s (headerOf s) (num f) ≤ n)
+  pub answers : n < count s (headerOf s) (num f) → walkAnswer (t .answer) ≡ walkAnswer (walkOf s (headerOf s) (path s (headerOf s) (num f) n))
+
+-- the paths that stand in the buffer after a call and after each of the nexts that follow it, up to the one that is refused, k calls at most
+unfoldable pub publicReadOff : List ℤ → ℤ → ℕ → State → List (List ℕ)
+publicReadOff s f zero t = []
+publicReadOff s f (suc k) t =
+    elim (t .answer) [
+      | Walked e n ↦ take n (t .buffer) ∷ publicReadOff s f k (publicCall s f (t .buffer) Next)
+      | NoWalk r ↦ []
+    ]
 
 -- an accepted sheet, a flow of it, and a buffer at least as long as the flow has steps
 pub record Listable (s : List ℤ) (f : ℤ) (b : List ℕ) : Type 0 where

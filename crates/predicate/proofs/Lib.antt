@@ -4,4 +4,5 @@ pub mod Truth
 pub mod KindRange
 pub mod ValueLaws
 pub mod VerdictLaws
+pub mod RangeLaws
 pub mod SizeLaws

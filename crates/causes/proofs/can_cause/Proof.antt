@@ -21,7 +21,7 @@ can-be-true-requires : tie.Need-can-be-true-requires Inv-loop μ-loop
 can-be-true-requires c κs = (c .before .before .before .before .pre .0, c .before .if1 .taken)
 
 some-leads-requires : tie.Need-some-leads-requires Inv-loop μ-loop
-some-leads-requires c κs = (c .before .before .before .before .before .pre .0 .accepted, c .before .before .if1 .taken)
+some-leads-requires c κs = search needs
 
 returns : tie.Need-returns Inv-loop μ-loop
 returns c = caused-by (c .before .before .before .before .before .before .before .pre .0 .accepted) _ _ _ _ _ _ _ _ (c .before .before .before .before .before .before .loop .inv) (c .before .before .before .before .if1 .taken) (c .before .before .before .allows .ensures) (c .before .before .can-be-true .ensures) (c .before .some-leads .ensures) (c .if2 .taken)
