@@ -155,7 +155,7 @@ pub fn choose(s: &[i64], h: Header, states: &[i64], o: Operation) -> Choice
         if j == outcomes {
             break Choice::Nothing;
         }
-        let mut found = [false; 32];
+        let mut found = [false; Header::ENTITIES];
         let stop = collect(s, h, states, &mut found, o, at, j);
         let mut d = at;
         while d < stop {
@@ -194,7 +194,7 @@ pub fn apply(s: &[i64], h: Header, states: &mut [i64], o: Operation, j: usize)
     let effects = effects_of(s, h, o);
     let end = effects.end;
     // An entity moves once: an effect that starts from the state it moved to is not applied.
-    let mut moved = [false; 32];
+    let mut moved = [false; Header::ENTITIES];
     let mut e = effects.first;
     while e < end {
         let out = effect_word(s, h, e, 3);

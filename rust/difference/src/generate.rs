@@ -70,6 +70,11 @@ impl Wish {
             let owners = counts[RULES] + counts[OPERATIONS] + counts[STEPS] / 3;
             counts[NODES] = counts[NODES].max(owners * (1 + random.below(5)) + random.below(8)).min(limits[NODES]);
         }
+        // Some have about as many nodes and entities as the library's smaller arrays hold.
+        if random.chance(1, 16) {
+            counts[NODES] = random.pick(&[127, 128, 129]);
+            counts[ENTITIES] = random.pick(&[3, 4, 5]);
+        }
         Wish {
             counts,
             states: random.pick(&[1, 2, 2, 3, 3, 4, 8, 16]),
