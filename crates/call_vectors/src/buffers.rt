@@ -6,7 +6,7 @@ use signed::num;
 use tables::word_entry;
 
 // The place n further on; one past every tape where that is far.
-pub fn skip(at: usize, n: usize) -> usize {
+pub(crate) fn skip(at: usize, n: usize) -> usize {
     if at < 65536 {
         if n < 65536 {
             return at + n;
@@ -16,7 +16,7 @@ pub fn skip(at: usize, n: usize) -> usize {
 }
 
 // Number k of the call at a place.
-pub fn number(tape: &[i64], at: usize, k: usize) -> i64 {
+pub(crate) fn number(tape: &[i64], at: usize, k: usize) -> i64 {
     word_entry(tape, skip(at, k))
 }
 
@@ -24,7 +24,7 @@ fn full(tape: &[i64], at: usize) -> bool {
     word_entry(tape, at) == -1
 }
 
-pub fn size(tape: &[i64], at: usize) -> usize {
+pub(crate) fn size(tape: &[i64], at: usize) -> usize {
     if full(tape, at) {
         num(word_entry(tape, skip(at, 1)))
     } else {
@@ -41,7 +41,7 @@ fn entry(tape: &[i64], at: usize, i: usize) -> i64 {
 }
 
 // The place after the buffer at a place.
-pub fn past(tape: &[i64], at: usize) -> usize {
+pub(crate) fn past(tape: &[i64], at: usize) -> usize {
     if full(tape, at) {
         skip(at, 3)
     } else {
@@ -50,7 +50,7 @@ pub fn past(tape: &[i64], at: usize) -> usize {
 }
 
 // The place after n buffers.
-pub fn past_all(tape: &[i64], first: usize, n: usize) -> usize {
+pub(crate) fn past_all(tape: &[i64], first: usize, n: usize) -> usize {
     let mut at = first;
     let mut i = 0;
     while i < n {
@@ -73,7 +73,7 @@ fn put(out: &mut [i64], i: usize, w: i64) {
 }
 
 // Puts the entries of the buffer at a place to the start of `out`, as many as it has room for; answers how many.
-pub fn lend(tape: &[i64], at: usize, out: &mut [i64]) -> usize
+pub(crate) fn lend(tape: &[i64], at: usize, out: &mut [i64]) -> usize
     ensures { λ n. ⌜ (n ≤ length (now (out .exit))) × (n ≡ length (take n (now (out .exit)))) ⌝ }
 {
     let n = least(size(tape, at), out.len());
@@ -91,7 +91,7 @@ fn short(w: i64) -> u16 {
 }
 
 // As `lend`, for a path.
-pub fn lend_path(tape: &[i64], at: usize, out: &mut [u16]) -> usize
+pub(crate) fn lend_path(tape: &[i64], at: usize, out: &mut [u16]) -> usize
     ensures { λ n. ⌜ (n ≤ length (now (out .exit))) × (n ≡ length (take n (now (out .exit)))) ⌝ }
 {
     let n = least(size(tape, at), out.len());

@@ -10,7 +10,7 @@ fn assemble_on(s: &[i64], values: &mut [i64], given: &[i64], case: usize) {
     lines::end();
 }
 
-pub fn assemble(s: &[i64], tape: &[i64], first: usize, case: usize) {
+pub(crate) fn assemble(s: &[i64], tape: &[i64], first: usize, case: usize) {
     let mut values = [0i64; 160];
     let mut given = [0i64; 160];
     let n = lend(tape, first, &mut values);
@@ -26,7 +26,7 @@ fn verdicts_on(s: &[i64], values: &[i64], given: &[i64], verdicts: &mut [i64], c
     lines::end();
 }
 
-pub fn verdicts(s: &[i64], tape: &[i64], first: usize, case: usize) {
+pub(crate) fn verdicts(s: &[i64], tape: &[i64], first: usize, case: usize) {
     let mut values = [0i64; 160];
     let mut given = [0i64; 160];
     let mut verdicts = [0i64; 160];
@@ -56,7 +56,14 @@ fn operate_on(
     lines::end();
 }
 
-pub fn operate(s: &[i64], tape: &[i64], first: usize, persona: i64, operation: i64, case: usize) {
+pub(crate) fn operate(
+    s: &[i64],
+    tape: &[i64],
+    first: usize,
+    persona: i64,
+    operation: i64,
+    case: usize,
+) {
     let mut values = [0i64; 160];
     let mut given = [0i64; 160];
     let mut states = [0i64; 160];

@@ -39,7 +39,7 @@ fn taken(s: &[i64], tape: &[i64], call: usize, at: usize) -> Count {
     }
 }
 
-pub fn report(s: &[i64], tape: &[i64], call: usize, at: usize, case: usize) {
+pub(crate) fn report(s: &[i64], tape: &[i64], call: usize, at: usize, case: usize) {
     lines::count(case, taken(s, tape, call, at));
     lines::end();
 }

@@ -39,12 +39,12 @@ fn word(w: i64) {
     }
 }
 
-pub fn field(n: usize) {
+pub(crate) fn field(n: usize) {
     io::write_all(1, b"\t");
     number(n);
 }
 
-pub fn end() {
+pub(crate) fn end() {
     io::write_all(1, b"\n");
 }
 
@@ -62,7 +62,7 @@ fn done(value: usize, length: usize) {
     field(length);
 }
 
-pub fn status(case: usize, s: Status) {
+pub(crate) fn status(case: usize, s: Status) {
     number(case);
     match s {
         Status::Done => done(0, 0),
@@ -70,7 +70,7 @@ pub fn status(case: usize, s: Status) {
     }
 }
 
-pub fn count(case: usize, c: Count) {
+pub(crate) fn count(case: usize, c: Count) {
     number(case);
     match c {
         Count::Is(n) => done(n, 0),
@@ -78,7 +78,7 @@ pub fn count(case: usize, c: Count) {
     }
 }
 
-pub fn walk(case: usize, w: Walk) {
+pub(crate) fn walk(case: usize, w: Walk) {
     number(case);
     match w {
         Walk::Path { terminal, length } => done(terminal, length),
@@ -92,7 +92,7 @@ fn gap(i: usize) {
     }
 }
 
-pub fn buffer(b: &[i64]) {
+pub(crate) fn buffer(b: &[i64]) {
     io::write_all(1, b"\t");
     let mut i = 0;
     while i < b.len() {
@@ -106,7 +106,7 @@ fn route(r: u16) {
     number(r as usize);
 }
 
-pub fn path(b: &[u16]) {
+pub(crate) fn path(b: &[u16]) {
     io::write_all(1, b"\t");
     let mut i = 0;
     while i < b.len() {

@@ -17,13 +17,13 @@ fn next_on(s: &[i64], flow: i64, path: &mut [u16], case: usize) {
     lines::end();
 }
 
-pub fn first(s: &[i64], tape: &[i64], at: usize, flow: i64, case: usize) {
+pub(crate) fn first(s: &[i64], tape: &[i64], at: usize, flow: i64, case: usize) {
     let mut path = [0u16; 512];
     let n = lend_path(tape, at, &mut path);
     first_on(s, flow, &mut path[..n], case);
 }
 
-pub fn next(s: &[i64], tape: &[i64], at: usize, flow: i64, case: usize) {
+pub(crate) fn next(s: &[i64], tape: &[i64], at: usize, flow: i64, case: usize) {
     let mut path = [0u16; 512];
     let n = lend_path(tape, at, &mut path);
     next_on(s, flow, &mut path[..n], case);
@@ -39,7 +39,7 @@ fn list_on(s: &[i64], flow: i64, nexts: usize, path: &mut [u16], case: usize) {
 }
 
 // A list of calls on one buffer: first, then so many nexts; a line for each.
-pub fn list(s: &[i64], tape: &[i64], at: usize, flow: i64, nexts: usize, case: usize) {
+pub(crate) fn list(s: &[i64], tape: &[i64], at: usize, flow: i64, nexts: usize, case: usize) {
     let mut path = [0u16; 512];
     let n = lend_path(tape, at, &mut path);
     list_on(s, flow, nexts, &mut path[..n], case);
@@ -111,7 +111,7 @@ fn all_on(s: &[i64], flow: i64, path: &mut [u16], case: usize) {
 }
 
 // First, then next until refused: one line, the last answer and buffer, how many paths were listed, and a checksum of them.
-pub fn all(s: &[i64], tape: &[i64], at: usize, flow: i64, case: usize) {
+pub(crate) fn all(s: &[i64], tape: &[i64], at: usize, flow: i64, case: usize) {
     let mut path = [0u16; 512];
     let n = lend_path(tape, at, &mut path);
     all_on(s, flow, &mut path[..n], case);
@@ -159,7 +159,7 @@ fn run_with(
     );
 }
 
-pub fn run(s: &[i64], tape: &[i64], at: usize, flow: i64, case: usize) {
+pub(crate) fn run(s: &[i64], tape: &[i64], at: usize, flow: i64, case: usize) {
     let mut values = [0i64; 160];
     let mut given = [0i64; 160];
     let second = past(tape, at);

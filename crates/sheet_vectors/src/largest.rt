@@ -136,7 +136,7 @@ fn put_header(out: &mut [i64]) {
     }
 }
 
-pub fn lay(out: &mut [i64]) {
+pub(crate) fn lay(out: &mut [i64]) {
     put_header(out);
     let mut k = 0;
     while k < 3776 {

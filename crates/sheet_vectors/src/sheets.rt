@@ -11,7 +11,7 @@ pub const SECOND: usize = 1168;
 
 pub const CASES: usize = 1320;
 
-pub fn put(out: &mut [i64], i: usize, v: i64) {
+pub(crate) fn put(out: &mut [i64], i: usize, v: i64) {
     if i < out.len() {
         out[i] = v;
     }
@@ -28,12 +28,12 @@ fn copy(tape: &[i64], from: usize, n: usize, out: &mut [i64])
     }
 }
 
-pub fn lay_first(tape: &[i64], out: &mut [i64]) {
+pub(crate) fn lay_first(tape: &[i64], out: &mut [i64]) {
     copy(tape, 0, FIRST, out);
 }
 
 // Bases: 0 no words, 1 a header alone, 2 and 3 the tape's sheets, 4 the largest.
-pub fn lay(base: usize, tape: &[i64], out: &mut [i64]) {
+pub(crate) fn lay(base: usize, tape: &[i64], out: &mut [i64]) {
     match base {
         1 => put(out, 0, 1),
         2 => lay_first(tape, out),
@@ -43,7 +43,7 @@ pub fn lay(base: usize, tape: &[i64], out: &mut [i64]) {
     }
 }
 
-pub fn size(base: usize) -> usize {
+pub(crate) fn size(base: usize) -> usize {
     match base {
         1 => 16,
         2 => FIRST,
@@ -66,7 +66,7 @@ fn place(record: i64, word: i64) -> usize {
 }
 
 // The changes that stand at `first` on the tape: record, word, value.
-pub fn change(tape: &[i64], first: usize, n: usize, out: &mut [i64])
+pub(crate) fn change(tape: &[i64], first: usize, n: usize, out: &mut [i64])
     requires { ⌜ (first ≤ 8195) × (n ≤ 16) ⌝ }
 {
     let mut at = first;
