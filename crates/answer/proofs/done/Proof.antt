@@ -13,7 +13,12 @@ signed-requires-2 c κs = search needs
 
 returns : tie.Need-returns
 returns c =
-    rw (toZ-ofZ w64 (c .before .signed .result) (record { sfits = c .before .signed .ok }), toZ-ofZ w64 (c .signed2 .result) (record { sfits = c .signed2 .ok }), c .before .signed .ensures, c .signed2 .ensures)
+    rw (
+      toZ-ofZ w64 (c .before .signed .result) (record { sfits = c .before .signed .ok }),
+      toZ-ofZ w64 (c .signed2 .result) (record { sfits = c .signed2 .ok }),
+      c .before .signed .ensures,
+      c .signed2 .ensures,
+    )
 
 pub done-spec : {M : Type 1} → statement M
 done-spec = tie.close (tie.spec signed-requires signed-requires-2 returns)

@@ -8,13 +8,17 @@ enum-known-c : tie.Need-enum-known-c
 enum-known-c c = search needs
 
 done-requires : tie.Need-done-requires
-done-requires c κs = (rw (c .before .c .given .1) at (c .before .before .before .pre), lit< tt)
+done-requires c κs =
+    let at-start = c .before .before .before in
+    (rw (c .before .c .given .1) at (at-start .pre), lit< tt)
 
 enum-known-c-2 : tie.Need-enum-known-c-2
 enum-known-c-2 c = search needs
 
 refused-requires : tie.Need-refused-requires
-refused-requires c κs = rw (c .before .c2 .given .1) at (c .before .before .before .pre)
+refused-requires c κs =
+    let at-start = c .before .before .before in
+    rw (c .before .c2 .given .1) at (at-start .pre)
 
 returns : tie.Need-returns
 returns c = rw (c .before .before .c .given .1) (c .done .ensures)

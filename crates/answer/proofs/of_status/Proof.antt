@@ -13,7 +13,9 @@ enum-known-s : tie.Need-enum-known-s
 enum-known-s c = search needs
 
 refused-requires : tie.Need-refused-requires
-refused-requires c κs = rw (c .before .s .given .1) at (c .before .before .before .pre)
+refused-requires c κs =
+    let at-start = c .before .before .before in
+    rw (c .before .s .given .1) at (at-start .pre)
 
 returns : tie.Need-returns
 returns c = rw (c .before .enum-told .given .1) (c .done .ensures)

@@ -7,13 +7,17 @@ enum-known-w : tie.Need-enum-known-w
 enum-known-w c = search needs
 
 done-requires : tie.Need-done-requires
-done-requires c κs = rw (c .before .w .given .1) at (c .before .before .before .pre)
+done-requires c κs =
+    let at-start = c .before .before .before in
+    rw (c .before .w .given .1) at (at-start .pre)
 
 enum-known-w-2 : tie.Need-enum-known-w-2
 enum-known-w-2 c = search needs
 
 refused-requires : tie.Need-refused-requires
-refused-requires c κs = rw (c .before .w2 .given .1) at (c .before .before .before .pre)
+refused-requires c κs =
+    let at-start = c .before .before .before in
+    rw (c .before .w2 .given .1) at (at-start .pre)
 
 returns : tie.Need-returns
 returns c = rw (c .before .before .w .given .1) (c .done .ensures)

@@ -21,7 +21,16 @@ signed-requires-2 c κs = search needs
 
 returns : tie.Need-returns
 returns c =
-    rw (toZ-ofZ w64 (c .before .signed .result) (record { sfits = c .before .signed .ok }), toZ-ofZ w64 (c .signed2 .result) (record { sfits = c .signed2 .ok }), c .before .signed .ensures, c .signed2 .ensures, c .before .before .before .number .ensures, c .before .before .place .ensures)
+    let at-place = c .before .before in
+    let at-number = at-place .before in
+    rw (
+      toZ-ofZ w64 (c .before .signed .result) (record { sfits = c .before .signed .ok }),
+      toZ-ofZ w64 (c .signed2 .result) (record { sfits = c .signed2 .ok }),
+      c .before .signed .ensures,
+      c .signed2 .ensures,
+      at-number .number .ensures,
+      at-place .place .ensures,
+    )
 
 pub refused-spec : {M : Type 1} → statement M
 refused-spec =

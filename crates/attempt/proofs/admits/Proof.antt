@@ -14,7 +14,9 @@ precondition-holds-requires : tie.Need-precondition-holds-requires
 precondition-holds-requires c κs = search needs
 
 returns-2 : tie.Need-returns-2
-returns-2 c = admitted _ (c .before .before .allows .ensures) (c .before .if1 .left) (c .precondition-holds .ensures)
+returns-2 c =
+    let at-allows = c .before .before in
+    admitted _ (at-allows .allows .ensures) (c .before .if1 .left) (c .precondition-holds .ensures)
 
 pub admits-spec : {M : Type 1} → statement M
 admits-spec = tie.close (tie.spec allows-requires returns precondition-holds-requires returns-2)

@@ -11,7 +11,9 @@ returns : tie.Need-returns
 returns c = at-persona _ _ _ _ _ _ (c .before .allows .ensures) (c .if1 .taken)
 
 returns-2 : tie.Need-returns-2
-returns-2 c = at-precondition _ _ _ _ _ _ (c .before .before .allows .ensures) (c .before .if1 .left) (c .if2 .taken)
+returns-2 c =
+    let at-allows = c .before .before in
+    at-precondition _ _ _ _ _ _ (at-allows .allows .ensures) (c .before .if1 .left) (c .if2 .taken)
 
 perform-requires : tie.Need-perform-requires
 perform-requires c κs = search needs
@@ -26,13 +28,25 @@ same-length : tie.Need-same-length
 same-length c = search needs
 
 returns-3 : tie.Need-returns-3
-returns-3 c = at-outcome _ _ _ _ _ _ (c .before .before .before .before .before .before .before .before .allows .ensures) (c .before .before .before .before .before .before .before .if1 .left) (c .before .before .before .before .before .before .if2 .left) (c .before .before .before .before .perform .ensures .0) (c .before .before .before .before .perform .ensures .1) _ (c .before .j .given .1)
+returns-3 c =
+    let at-perform = c .before .before .before .before in
+    let at-if2 = at-perform .before .before in
+    let at-if1 = at-if2 .before in
+    let at-allows = at-if1 .before in
+    at-outcome _ _ _ _ _ _ (at-allows .allows .ensures) (at-if1 .if1 .left) (at-if2 .if2 .left) (at-perform .perform .ensures .0)
+    (at-perform .perform .ensures .1) _ (c .before .j .given .1)
 
 same-length-2 : tie.Need-same-length-2
 same-length-2 c = search needs
 
 returns-4 : tie.Need-returns-4
-returns-4 c = at-nothing _ _ _ _ _ _ (c .before .before .before .before .before .before .before .allows .ensures) (c .before .before .before .before .before .before .if1 .left) (c .before .before .before .before .before .if2 .left) (c .before .before .before .perform .ensures .0) (c .before .before .before .perform .ensures .1) (c .enum-told .given .1)
+returns-4 c =
+    let at-perform = c .before .before .before in
+    let at-if2 = at-perform .before .before in
+    let at-if1 = at-if2 .before in
+    let at-allows = at-if1 .before in
+    at-nothing _ _ _ _ _ _ (at-allows .allows .ensures) (at-if1 .if1 .left) (at-if2 .if2 .left) (at-perform .perform .ensures .0)
+    (at-perform .perform .ensures .1) (c .enum-told .given .1)
 
 pub attempt-known-spec : {M : Type 1} → statement M
 attempt-known-spec =

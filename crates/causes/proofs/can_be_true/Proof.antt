@@ -24,7 +24,17 @@ within-requires : tie.Need-within-requires
 within-requires c κs = search needs
 
 returns : tie.Need-returns
-returns c = range-read (c .before .before .before .before .before .before .pre .0) _ (c .before .before .before .before .before .before .pre .1) _ _ _ _ _ (c .before .before .before .before .before .first-operation .ensures) (c .before .before .before .number .ensures) (c .before .before .word-entry .ensures) (c .before .word-entry2 .ensures) (rw (back-of (c .before .before .word-entry .result) (c .before .before .word-entry .ok), back-of (c .before .word-entry2 .result) (c .before .word-entry2 .ok)) at (c .within .ensures))
+returns c =
+    let at-word-entry = c .before .before in
+    let at-number = at-word-entry .before in
+    let at-first-operation = at-number .before .before in
+    let at-start = at-first-operation .before in
+    range-read (at-start .pre .0) _ (at-start .pre .1) _ _ _ _ _ (at-first-operation .first-operation .ensures) (at-number .number .ensures)
+    (at-word-entry .word-entry .ensures) (c .before .word-entry2 .ensures)
+    (rw (
+      back-of (at-word-entry .word-entry .result) (at-word-entry .word-entry .ok),
+      back-of (c .before .word-entry2 .result) (c .before .word-entry2 .ok),
+    ) at (c .within .ensures))
 
 pub can-be-true-spec : {M : Type 1} → statement M
 can-be-true-spec =

@@ -15,16 +15,27 @@ loop-holds : tie.Need-loop-holds Inv-loop μ-loop
 loop-holds c = none _ _ _ _ _ _
 
 allows-requires : tie.Need-allows-requires Inv-loop μ-loop
-allows-requires c κs = (c .before .before .before .pre .0 .accepted .sized, (c .if1 .taken, c .before .before .before .pre .1))
+allows-requires c κs =
+    let at-start = c .before .before .before in
+    (at-start .pre .0 .accepted .sized, (c .if1 .taken, at-start .pre .1))
 
 can-be-true-requires : tie.Need-can-be-true-requires Inv-loop μ-loop
-can-be-true-requires c κs = (c .before .before .before .before .pre .0, c .before .if1 .taken)
+can-be-true-requires c κs =
+    let at-start = c .before .before .before .before in
+    (at-start .pre .0, c .before .if1 .taken)
 
 some-leads-requires : tie.Need-some-leads-requires Inv-loop μ-loop
 some-leads-requires c κs = search needs
 
 returns : tie.Need-returns Inv-loop μ-loop
-returns c = caused-by (c .before .before .before .before .before .before .before .pre .0 .accepted) _ _ _ _ _ _ _ _ (c .before .before .before .before .before .before .loop .inv) (c .before .before .before .before .if1 .taken) (c .before .before .before .allows .ensures) (c .before .before .can-be-true .ensures) (c .before .some-leads .ensures) (c .if2 .taken)
+returns c =
+    let at-can-be-true = c .before .before in
+    let at-allows = at-can-be-true .before in
+    let at-if1 = at-allows .before in
+    let at-loop = at-if1 .before .before in
+    let at-start = at-loop .before in
+    caused-by (at-start .pre .0 .accepted) _ _ _ _ _ _ _ _ (at-loop .loop .inv) (at-if1 .if1 .taken) (at-allows .allows .ensures)
+    (at-can-be-true .can-be-true .ensures) (c .before .some-leads .ensures) (c .if2 .taken)
 
 add-o : tie.Need-add-o Inv-loop μ-loop
 add-o c = search needs
@@ -33,7 +44,14 @@ loop-less : tie.Need-loop-less Inv-loop μ-loop
 loop-less c = search needs
 
 loop-again : tie.Need-loop-again Inv-loop μ-loop
-loop-again c = more (c .before .before .before .before .before .before .before .pre .0 .accepted) _ _ _ _ _ _ _ _ (c .before .before .before .before .before .before .loop .inv) (c .before .before .before .before .if1 .taken) (c .before .before .before .allows .ensures) (c .before .before .can-be-true .ensures) (c .before .some-leads .ensures) (c .if2 .left)
+loop-again c =
+    let at-can-be-true = c .before .before in
+    let at-allows = at-can-be-true .before in
+    let at-if1 = at-allows .before in
+    let at-loop = at-if1 .before .before in
+    let at-start = at-loop .before in
+    more (at-start .pre .0 .accepted) _ _ _ _ _ _ _ _ (at-loop .loop .inv) (at-if1 .if1 .taken) (at-allows .allows .ensures)
+    (at-can-be-true .can-be-true .ensures) (c .before .some-leads .ensures) (c .if2 .left)
 
 returns-2 : tie.Need-returns-2 Inv-loop μ-loop
 returns-2 c = uncaused _ _ _ _ _ _ _ (c .before .before .loop .inv) (c .if1 .left)

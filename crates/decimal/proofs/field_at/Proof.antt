@@ -17,7 +17,10 @@ enum-known-value c = search needs
 returns : tie.Need-returns
 returns c =
     let start = c .before .before .before .before .before .before in
-    sym (field-of (start .args .text .now) (start .args .at) (start .args .end) _ (sym (c .before .before .before .before .word-at .ensures) ∙ c .before .before .value .given .1) ∙ closed-short (start .args .text .now) (start .args .end) (c .before .before .value .given .0 .0) (c .before .before .value .given .0 .1 .0) (c .if1 .taken))
+    sym (field-of (start .args .text .now) (start .args .at) (start .args .end) _
+    (sym (c .before .before .before .before .word-at .ensures) ∙ c .before .before .value .given .1)
+    ∙ closed-short (start .args .text .now) (start .args .end) (c .before .before .value .given .0 .0) (c .before .before .value .given .0 .1 .0)
+    (c .if1 .taken))
 
 shared-slice-read-if2 : tie.Need-shared-slice-read-if2
 shared-slice-read-if2 c = search needs
@@ -25,7 +28,10 @@ shared-slice-read-if2 c = search needs
 returns-2 : tie.Need-returns-2
 returns-2 c =
     let start = c .before .before .before .before .before .before .before .before in
-    sym (field-of (start .args .text .now) (start .args .at) (start .args .end) _ (sym (c .before .before .before .before .before .before .word-at .ensures) ∙ c .before .before .before .before .value .given .1) ∙ closed-other (start .args .text .now) (start .args .end) (c .before .before .before .before .value .given .0 .0) (c .before .before .before .before .value .given .0 .1 .0) (c .before .before .if1 .left) (c .if2 .taken))
+    sym (field-of (start .args .text .now) (start .args .at) (start .args .end) _
+    (sym (c .before .before .before .before .before .before .word-at .ensures) ∙ c .before .before .before .before .value .given .1)
+    ∙ closed-other (start .args .text .now) (start .args .end) (c .before .before .before .before .value .given .0 .0)
+    (c .before .before .before .before .value .given .0 .1 .0) (c .before .before .if1 .left) (c .if2 .taken))
 
 add-t8 : tie.Need-add-t8
 add-t8 c = search needs
@@ -36,12 +42,20 @@ enum-told c = search needs
 returns-3 : tie.Need-returns-3
 returns-3 c =
     let start = c .before .before .before .before .before .before .before .before in
-    rw (toZ-ofZ w64 (c .before .before .before .before .value .given .0 .0) (word-fits (start .args .text .now) (start .args .at) (c .before .before .before .before .value .given .0 .0) (c .before .before .before .before .value .given .0 .1 .0) (sym (c .before .before .before .before .before .before .word-at .ensures) ∙ c .before .before .before .before .value .given .1))) (sym (field-of (start .args .text .now) (start .args .at) (start .args .end) _ (sym (c .before .before .before .before .before .before .word-at .ensures) ∙ c .before .before .before .before .value .given .1) ∙ closed-complete (start .args .text .now) (start .args .end) (c .before .before .before .before .value .given .0 .0) (c .before .before .before .before .value .given .0 .1 .0) (c .before .before .if1 .left) (c .if2 .left)))
+    rw (toZ-ofZ w64 (c .before .before .before .before .value .given .0 .0)
+    (word-fits (start .args .text .now) (start .args .at) (c .before .before .before .before .value .given .0 .0)
+    (c .before .before .before .before .value .given .0 .1 .0)
+    (sym (c .before .before .before .before .before .before .word-at .ensures) ∙ c .before .before .before .before .value .given .1)))
+    (sym (field-of (start .args .text .now) (start .args .at) (start .args .end) _
+    (sym (c .before .before .before .before .before .before .word-at .ensures) ∙ c .before .before .before .before .value .given .1)
+    ∙ closed-complete (start .args .text .now) (start .args .end) (c .before .before .before .before .value .given .0 .0)
+    (c .before .before .before .before .value .given .0 .1 .0) (c .before .before .if1 .left) (c .if2 .left)))
 
 returns-4 : tie.Need-returns-4
 returns-4 c =
     let start = c .before .before .before .before in
-    sym (field-of (start .args .text .now) (start .args .at) (start .args .end) _ (sym (c .before .before .word-at .ensures) ∙ c .enum-told .given .1) ∙ closed-bad (start .args .text .now) (start .args .end))
+    sym (field-of (start .args .text .now) (start .args .at) (start .args .end) _ (sym (c .before .before .word-at .ensures) ∙ c .enum-told .given .1)
+    ∙ closed-bad (start .args .text .now) (start .args .end))
 
 pub field-at-spec : {M : Type 1} → statement M
 field-at-spec =

@@ -20,19 +20,29 @@ above : (c : tie.Else1) → ltZ (c .before .args .w) (pos 0) ≡ false
 above c = rw (toZ-ofZ w64 (c .before .args .w) (c .before .fits .w)) at (c .if1 .left)
 
 sub-result : tie.Need-sub-result
-sub-result c = rw (as-told c, minus-negative (c .before .args .w) (below c)) (fits-pos (natAbs (c .before .args .w)) (small (c .before .args .w) (c .before .pre)))
+sub-result c =
+    rw (as-told c, minus-negative (c .before .args .w) (below c))
+    (fits-pos (natAbs (c .before .args .w)) (small (c .before .args .w) (c .before .pre)))
 
 cast-result : tie.Need-cast-result
-cast-result c = rw (as-told c) (cast-pos (pos 0 -ℤ (c .before .args .w)) (natAbs (c .before .args .w)) (minus-negative (c .before .args .w) (below c)) (small (c .before .args .w) (c .before .pre)))
+cast-result c =
+    rw (as-told c) (cast-pos (pos 0 -ℤ (c .before .args .w)) (natAbs (c .before .args .w)) (minus-negative (c .before .args .w) (below c))
+    (small (c .before .args .w) (c .before .pre)))
 
 returns : tie.Need-returns
-returns c = rw (as-told c) (read-pos (pos 0 -ℤ (c .before .args .w)) (natAbs (c .before .args .w)) (minus-negative (c .before .args .w) (below c)) (small (c .before .args .w) (c .before .pre)))
+returns c =
+    rw (as-told c) (read-pos (pos 0 -ℤ (c .before .args .w)) (natAbs (c .before .args .w)) (minus-negative (c .before .args .w) (below c))
+    (small (c .before .args .w) (c .before .pre)))
 
 cast-result-2 : tie.Need-cast-result-2
-cast-result-2 c = cast-pos (c .before .args .w) (natAbs (c .before .args .w)) (not-negative (c .before .args .w) (above c)) (small (c .before .args .w) (c .before .pre))
+cast-result-2 c =
+    cast-pos (c .before .args .w) (natAbs (c .before .args .w)) (not-negative (c .before .args .w) (above c))
+    (small (c .before .args .w) (c .before .pre))
 
 returns-2 : tie.Need-returns-2
-returns-2 c = read-pos (c .before .args .w) (natAbs (c .before .args .w)) (not-negative (c .before .args .w) (above c)) (small (c .before .args .w) (c .before .pre))
+returns-2 c =
+    read-pos (c .before .args .w) (natAbs (c .before .args .w)) (not-negative (c .before .args .w) (above c))
+    (small (c .before .args .w) (c .before .pre))
 
 pub magnitude-spec : {M : Type 1} → statement M
 magnitude-spec = tie.close (tie.spec sub-result cast-result returns cast-result-2 returns-2)

@@ -9,7 +9,9 @@ use Rattle.decimal.proofs.negative.Statement.{statement}
 use Rattle.decimal.proofs.negative.Tie as tie
 
 within : (c : tie.After-known-told) → c .before .n .given .0 .0 ≤ M
-within c = rw (c .before .n .given .1) at (c .before .before .before .pre)
+within c =
+    let at-start = c .before .before .before in
+    rw (c .before .n .given .1) at (at-start .pre)
 
 enum-known-n : tie.Need-enum-known-n
 enum-known-n c = search needs
@@ -29,7 +31,9 @@ enum-told c = search needs
 
 returns-2 : tie.Need-returns-2
 unfolding negativeWord
-returns-2 c = rw (c .before .before .n .given .1, ne-eqb (c .before .before .n .given .0 .0) 0 (c .if1 .left), word-minus (c .before .before .n .given .0 .0) (within (c .before)))
+returns-2 c =
+    let at-n = c .before .before in
+    rw (at-n .n .given .1, ne-eqb (at-n .n .given .0 .0) 0 (c .if1 .left), word-minus (at-n .n .given .0 .0) (within (c .before)))
 
 returns-3 : tie.Need-returns-3
 unfolding negativeWord

@@ -31,7 +31,9 @@ bounded-requires c κs = search needs
 returns-3 : tie.Need-returns-3
 returns-3 c =
     let start = c .before .before .before .before .before .before in
-    c .bounded .ensures ∙ ap boundedRun (c .before .run-at .ensures) ∙ sym (number-other (start .args .text .now) (start .args .at) (c .before .before .before .before .if1 .left) (c .before .before .if2 .left))
+    c .bounded .ensures
+    ∙ ap boundedRun (c .before .run-at .ensures)
+    ∙ sym (number-other (start .args .text .now) (start .args .at) (c .before .before .before .before .if1 .left) (c .before .before .if2 .left))
 
 pub number-at-spec : {M : Type 1} → statement M
 number-at-spec =

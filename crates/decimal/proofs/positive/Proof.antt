@@ -8,7 +8,9 @@ use Rattle.decimal.proofs.positive.Statement.{statement}
 use Rattle.decimal.proofs.positive.Tie as tie
 
 within : (c : tie.After-known-told) → c .before .n .given .0 .0 ≤ M
-within c = rw (c .before .n .given .1) at (c .before .before .before .pre)
+within c =
+    let at-start = c .before .before .before in
+    rw (c .before .n .given .1) at (at-start .pre)
 
 enum-known-n : tie.Need-enum-known-n
 enum-known-n c = search needs

@@ -1,4 +1,5 @@
--- `decimal::put_digits` meets its contract. The loop's invariant: with the digits that are left to write, the text is as it is to be. Assumes nothing.
+-- `decimal::put_digits` meets its contract. The loop's invariant: with the digits that are left to write, the text is as it is to be. Assumes
+-- nothing.
 use borrow.Author.Needs.{needs}
 use Prim.Native.Nat.{ℕ, _≤_}
 use mathlib.Core.Path.{_≡_, _∙_, sym, ap, refl}
@@ -17,7 +18,12 @@ abbrev μ-loop : tie.MeasureT-loop
 μ-loop text₀ at n m left₀ j₀ text left j = j
 
 loop-holds : tie.Need-loop-holds Inv-loop μ-loop
-loop-holds c = (omega arith, refl, ap (λ (k : ℕ). sets (c .args .text .now) (c .args .at) (lastDigits k (c .args .m))) (c .pre .0) ∙ ap (sets (c .args .text .now) (c .args .at)) (last-all (c .args .m)))
+loop-holds c = (
+  omega arith,
+  refl,
+  ap (λ (k : ℕ). sets (c .args .text .now) (c .args .at) (lastDigits k (c .args .m))) (c .pre .0)
+      ∙ ap (sets (c .args .text .now) (c .args .at)) (last-all (c .args .m)),
+)
 
 sub-j : tie.Need-sub-j Inv-loop μ-loop
 sub-j c = search needs
@@ -38,13 +44,22 @@ loop-less : tie.Need-loop-less Inv-loop μ-loop
 loop-less c = search needs
 
 loop-again : tie.Need-loop-again Inv-loop μ-loop
-loop-again c = (omega arith, simp length-set (c .before .loop .inv .1), put-more (c .before .loop .text) (c .before .before .args .at) (c .before .loop .j) (c .before .loop .left) (c .loop-test .taken) ∙ c .before .loop .inv .2)
+loop-again c =
+    let at-start = c .before .before in (
+      omega arith,
+      simp length-set (c .before .loop .inv .1),
+      put-more (c .before .loop .text) (at-start .args .at) (c .before .loop .j) (c .before .loop .left) (c .loop-test .taken)
+          ∙ c .before .loop .inv .2,
+    )
 
 same-length : tie.Need-same-length Inv-loop μ-loop
 same-length c = c .before .loop .inv .1
 
 returns : tie.Need-returns Inv-loop μ-loop
-returns c = sym (put-done (c .before .loop .text) (c .before .before .args .at) (c .before .loop .j) (c .before .loop .left) (c .loop-test .left)) ∙ c .before .loop .inv .2
+returns c =
+    let at-start = c .before .before in
+    sym (put-done (c .before .loop .text) (at-start .args .at) (c .before .loop .j) (c .before .loop .left) (c .loop-test .left))
+    ∙ c .before .loop .inv .2
 
 pub put-digits-spec : {M : Type 1} → statement M
 put-digits-spec =

@@ -13,16 +13,27 @@ use Rattle.decimal.proofs.put_field.Statement.{statement}
 use Rattle.decimal.proofs.put_field.Tie as tie
 
 spelled : (c : tie.After-put-sign) → c .before .before .before .magnitude .result ≡ natAbs (c .before .before .before .before .before .args .w)
-spelled c = rw (toZ-ofZ w64 (c .before .before .before .before .before .args .w) (c .before .before .before .before .before .fits .w)) at (c .before .before .before .magnitude .ensures)
+spelled c =
+    let at-magnitude = c .before .before .before in
+    let at-start = at-magnitude .before .before in
+    rw (toZ-ofZ w64 (at-start .args .w) (at-start .fits .w)) at (at-magnitude .magnitude .ensures)
 
-signed : (c : tie.After-put-sign) → c .put-sign .result ≡ c .before .before .before .before .before .args .at + length (sign (c .before .before .before .before .before .args .w))
-signed c = rw (toZ-ofZ w64 (c .before .before .before .before .before .args .w) (c .before .before .before .before .before .fits .w)) at (c .put-sign .ensures .0)
+signed :
+    (c : tie.After-put-sign) →
+    c .put-sign .result ≡ c .before .before .before .before .before .args .at + length (sign (c .before .before .before .before .before .args .w))
+signed c =
+    let at-start = c .before .before .before .before .before in
+    rw (toZ-ofZ w64 (at-start .args .w) (at-start .fits .w)) at (c .put-sign .ensures .0)
 
 counted : (c : tie.After-put-sign) → c .before .before .width .result ≡ length (digits (natAbs (c .before .before .before .before .before .args .w)))
 counted c = c .before .before .width .ensures ∙ ap (λ (k : ℕ). length (digits k)) (spelled c)
 
-placed : (c : tie.After-put-sign) → c .put-sign .result + c .before .before .width .result ≡ c .before .before .before .before .before .args .at + length (decimal (c .before .before .before .before .before .args .w))
-placed c = omega (arith, signed c, counted c, length-decimal (c .before .before .before .before .before .args .w))
+placed :
+    (c : tie.After-put-sign) → c .put-sign .result + c .before .before .width .result ≡ c .before .before .before .before .before .args .at + length
+    (decimal (c .before .before .before .before .before .args .w))
+placed c =
+    let at-start = c .before .before .before .before .before in
+    omega (arith, signed c, counted c, length-decimal (at-start .args .w))
 
 magnitude-requires : tie.Need-magnitude-requires
 magnitude-requires c κs =
@@ -39,28 +50,54 @@ put-sign-requires c κs =
 
 put-digits-requires : tie.Need-put-digits-requires
 put-digits-requires c κs =
-    let signed-at = c .before .before .before in
-    (c .before .before .before .before .before .width .ensures, omega (arith, placed signed-at, signed-at .put-sign .kept .0, c .before .before .before .before .before .before .before .before .pre .1))
+    let signed-at = c .before .before .before in (
+      c .before .before .before .before .before .width .ensures,
+      omega (arith, placed signed-at, signed-at .put-sign .kept .0, c .before .before .before .before .before .before .before .before .pre .1),
+    )
 
 add-last : tie.Need-add-last
-add-last c = omega (arith, placed (c .before .before .before .before .before .before), c .before .before .before .before .before .before .before .before .before .before .before .pre .1)
+add-last c =
+    let at-put-sign = c .before .before .before .before .before .before in
+    let at-start = at-put-sign .before .before .before .before .before in
+    omega (arith, placed at-put-sign, at-start .pre .1)
 
 slice-write-text : tie.Need-slice-write-text
 slice-write-text c =
     let signed-at = c .before .before .before .before .before .before in
-    omega (arith, placed signed-at, c .before .before .before .before .before .before .before .before .before .before .before .pre .1, signed-at .put-sign .kept .0, c .before .before .put-digits .kept .0)
+    omega (
+      arith,
+      placed signed-at,
+      c .before .before .before .before .before .before .before .before .before .before .before .pre .1,
+      signed-at .put-sign .kept .0,
+      c .before .before .put-digits .kept .0,
+    )
 
 add-result : tie.Need-add-result
-add-result c = omega (arith, placed (c .before .before .before .before .before .before), c .before .before .before .before .before .before .before .before .before .before .before .pre .1)
+add-result c =
+    let at-put-sign = c .before .before .before .before .before .before in
+    let at-start = at-put-sign .before .before .before .before .before in
+    omega (arith, placed at-put-sign, at-start .pre .1)
 
 same-length : tie.Need-same-length
-same-length c = simp length-set (c .before .before .put-digits .kept .0 ∙ c .before .before .before .before .before .before .put-sign .kept .0)
+same-length c =
+    let at-put-digits = c .before .before in
+    let at-put-sign = at-put-digits .before .before .before .before in
+    simp length-set (at-put-digits .put-digits .kept .0 ∙ at-put-sign .put-sign .kept .0)
 
 returns : tie.Need-returns
 returns c =
     let signed-at = c .before .before .before .before .before .before in
-    let start = c .before .before .before .before .before .before .before .before .before .before .before in
-    (ap (λ (k : ℕ). k + 1) (placed signed-at), rw (c .before .before .put-digits .ensures, signed-at .put-sign .ensures .1, toZ-ofZ w64 (start .args .w) (start .fits .w), signed signed-at, counted signed-at, spelled signed-at) (put-all (start .args .text .now) (start .args .at) (start .args .w) (start .args .end)))
+    let start = c .before .before .before .before .before .before .before .before .before .before .before in (
+      ap (λ (k : ℕ). k + 1) (placed signed-at),
+      rw (
+        c .before .before .put-digits .ensures,
+        signed-at .put-sign .ensures .1,
+        toZ-ofZ w64 (start .args .w) (start .fits .w),
+        signed signed-at,
+        counted signed-at,
+        spelled signed-at,
+      ) (put-all (start .args .text .now) (start .args .at) (start .args .w) (start .args .end)),
+    )
 
 pub put-field-spec : {M : Type 1} → statement M
 put-field-spec =

@@ -19,11 +19,20 @@ Inv-loop text at magnitude₀ next₀ magnitude next = runAt 0 at (drop at text)
 abbrev μ-loop : tie.MeasureT-loop
 μ-loop text at magnitude₀ next₀ magnitude next = length text - next
 
-goes : (c : tie.Else1 Inv-loop μ-loop) → goesOn (c .before .before .before .before .loop .magnitude) (getD (c .before .before .before .before .before .before .args .text .now) (c .before .before .before .before .loop .next) 0) ≡ true
+goes :
+    (c : tie.Else1 Inv-loop μ-loop) → goesOn (c .before .before .before .before .loop .magnitude)
+    (getD (c .before .before .before .before .before .before .args .text .now) (c .before .before .before .before .loop .next) 0) ≡ true
 goes c = sym (c .before .goes-on .ensures) ∙ not-false _ (c .if1 .left)
 
-in-range : (c : tie.Else1 Inv-loop μ-loop) → (48 ≤ getD (c .before .before .before .before .before .before .args .text .now) (c .before .before .before .before .loop .next) 0) × (getD (c .before .before .before .before .before .before .args .text .now) (c .before .before .before .before .loop .next) 0 ≤ 57) × (c .before .before .before .before .loop .magnitude ≤ M)
-in-range c = goes-on-range (c .before .before .before .before .loop .magnitude) (getD (c .before .before .before .before .before .before .args .text .now) (c .before .before .before .before .loop .next) 0) (goes c)
+in-range :
+    (c : tie.Else1 Inv-loop μ-loop) →
+    (48 ≤ getD (c .before .before .before .before .before .before .args .text .now) (c .before .before .before .before .loop .next) 0)
+    × (getD (c .before .before .before .before .before .before .args .text .now) (c .before .before .before .before .loop .next) 0 ≤ 57)
+    × (c .before .before .before .before .loop .magnitude ≤ M)
+in-range c =
+    let at-loop = c .before .before .before .before in
+    let at-start = at-loop .before .before in
+    goes-on-range (at-loop .loop .magnitude) (getD (at-start .args .text .now) (at-loop .loop .next) 0) (goes c)
 
 loop-holds : tie.Need-loop-holds Inv-loop μ-loop
 loop-holds c = search needs
@@ -36,8 +45,12 @@ goes-on-requires c κs = search needs
 
 returns : tie.Need-returns Inv-loop μ-loop
 returns c =
-    let turn = c .before .before .before .before .loop in
-    rw (turn .inv) (sym (run-stop (c .before .before .before .before .before .before .args .text .now) (turn .magnitude) (turn .next) (c .before .before .before .loop-test .taken) (sym (c .before .goes-on .ensures) ∙ not-true _ (c .if1 .taken))))
+    let at-loop-test = c .before .before .before in
+    let at-loop = at-loop-test .before in
+    let at-start = at-loop .before .before in
+    let turn = at-loop .loop in
+    rw (turn .inv) (sym (run-stop (at-start .args .text .now) (turn .magnitude) (turn .next) (at-loop-test .loop-test .taken)
+    (sym (c .before .goes-on .ensures) ∙ not-true _ (c .if1 .taken))))
 
 mul-magnitude : tie.Need-mul-magnitude Inv-loop μ-loop
 mul-magnitude c = omega (arith, in-range c .2)
@@ -59,13 +72,18 @@ loop-less c = search needs
 
 loop-again : tie.Need-loop-again Inv-loop μ-loop
 loop-again c =
-    let turn = c .before .before .before .before .before .loop in
-    rw (turn .inv, c .wide .ensures) (run-step (c .before .before .before .before .before .before .before .args .text .now) (turn .magnitude) (turn .next) (c .before .before .before .before .loop-test .taken) (goes (c .before)))
+    let at-loop-test = c .before .before .before .before in
+    let at-loop = at-loop-test .before in
+    let at-start = at-loop .before .before in
+    let turn = at-loop .loop in
+    rw (turn .inv, c .wide .ensures)
+    (run-step (at-start .args .text .now) (turn .magnitude) (turn .next) (at-loop-test .loop-test .taken) (goes (c .before)))
 
 returns-2 : tie.Need-returns-2 Inv-loop μ-loop
 returns-2 c =
+    let at-start = c .before .before .before in
     let turn = c .before .loop in
-    rw (turn .inv) (sym (run-end (c .before .before .before .args .text .now) (turn .magnitude) (turn .next) (c .loop-test .left)))
+    rw (turn .inv) (sym (run-end (at-start .args .text .now) (turn .magnitude) (turn .next) (c .loop-test .left)))
 
 pub run-at-spec : {M : Type 1} → statement M
 run-at-spec =

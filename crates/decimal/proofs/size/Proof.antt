@@ -14,7 +14,10 @@ use Rattle.decimal.proofs.size.Statement.{statement}
 use Rattle.decimal.proofs.size.Tie as tie
 
 counted : (c : tie.After-width) → c .width .result ≡ length (digits (natAbs (c .before .before .args .w)))
-counted c = c .width .ensures ∙ ap (λ (k : ℕ). length (digits k)) (rw (toZ-ofZ w64 (c .before .before .args .w) (c .before .before .fits .w)) at (c .before .magnitude .ensures))
+counted c =
+    let at-start = c .before .before in
+    c .width .ensures
+    ∙ ap (λ (k : ℕ). length (digits k)) (rw (toZ-ofZ w64 (at-start .args .w) (at-start .fits .w)) at (c .before .magnitude .ensures))
 
 magnitude-requires : tie.Need-magnitude-requires
 magnitude-requires c κs = rw (toZ-ofZ w64 (c .args .w) (c .fits .w)) (c .pre)
@@ -30,12 +33,22 @@ add-result c =
 returns : tie.Need-returns
 returns c =
     let start = c .before .before .before in
-    omega (arith, counted (c .before), length-decimal (start .args .w), ap length (sign-minus (start .args .w) (rw (toZ-ofZ w64 (start .args .w) (start .fits .w)) at (c .if1 .taken))))
+    omega (
+      arith,
+      counted (c .before),
+      length-decimal (start .args .w),
+      ap length (sign-minus (start .args .w) (rw (toZ-ofZ w64 (start .args .w) (start .fits .w)) at (c .if1 .taken))),
+    )
 
 returns-2 : tie.Need-returns-2
 returns-2 c =
     let start = c .before .before .before in
-    omega (arith, counted (c .before), length-decimal (start .args .w), ap length (sign-none (start .args .w) (rw (toZ-ofZ w64 (start .args .w) (start .fits .w)) at (c .if1 .left))))
+    omega (
+      arith,
+      counted (c .before),
+      length-decimal (start .args .w),
+      ap length (sign-none (start .args .w) (rw (toZ-ofZ w64 (start .args .w) (start .fits .w)) at (c .if1 .left))),
+    )
 
 pub size-spec : {M : Type 1} → statement M
 size-spec = tie.close (tie.spec magnitude-requires width-requires add-result returns returns-2)

@@ -1,4 +1,5 @@
--- `decimal::width` meets its contract. The loop's invariant: the digits so far and those of what is left are the digits of the number. Assumes nothing.
+-- `decimal::width` meets its contract. The loop's invariant: the digits so far and those of what is left are the digits of the number. Assumes
+-- nothing.
 use borrow.Author.Needs.{needs}
 use Prim.Native.Nat.{_+_, _≤_}
 use mathlib.Core.Path.{_≡_}

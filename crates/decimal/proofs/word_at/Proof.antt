@@ -21,7 +21,9 @@ number-at-requires : tie.Need-number-at-requires
 number-at-requires c κs = search needs
 
 negative-requires : tie.Need-negative-requires
-negative-requires c κs = rw (c .number-at .ensures) (number-small (c .before .before .before .before .before .args .text .now) _)
+negative-requires c κs =
+    let at-start = c .before .before .before .before .before in
+    rw (c .number-at .ensures) (number-small (at-start .args .text .now) _)
 
 number-at-requires-2 : tie.Need-number-at-requires-2
 number-at-requires-2 c κs = search needs
@@ -34,12 +36,16 @@ positive-requires c κs =
 returns-2 : tie.Need-returns-2
 returns-2 c =
     let start = c .before .before .before .before .before .before in
-    c .negative .ensures ∙ ap negativeWord (c .before .number-at .ensures) ∙ sym (word-minus (start .args .text .now) (start .args .at) (c .before .before .before .before .if1 .left) (c .before .before .if2 .taken))
+    c .negative .ensures
+    ∙ ap negativeWord (c .before .number-at .ensures)
+    ∙ sym (word-minus (start .args .text .now) (start .args .at) (c .before .before .before .before .if1 .left) (c .before .before .if2 .taken))
 
 returns-3 : tie.Need-returns-3
 returns-3 c =
     let start = c .before .before .before .before .before .before in
-    c .positive .ensures ∙ ap positiveWord (c .before .number-at2 .ensures) ∙ sym (word-other (start .args .text .now) (start .args .at) (c .before .before .before .before .if1 .left) (c .before .before .if2 .left))
+    c .positive .ensures
+    ∙ ap positiveWord (c .before .number-at2 .ensures)
+    ∙ sym (word-other (start .args .text .now) (start .args .at) (c .before .before .before .before .if1 .left) (c .before .before .if2 .left))
 
 pub word-at-spec : {M : Type 1} → statement M
 word-at-spec =

@@ -16,16 +16,27 @@ array-borrow-prefix-verdicts : tie.Need-array-borrow-prefix-verdicts
 array-borrow-prefix-verdicts c = search needs
 
 slice-aggregate-act-on-2 : tie.Need-slice-aggregate-act-on-2
-slice-aggregate-act-on-2 c = sym (length-take-le _ _ (omega (arith, c .before .before .pre .known .sheet .sized .limits .rules)))
+slice-aggregate-act-on-2 c =
+    let at-start = c .before .before in
+    sym (length-take-le _ _ (omega (arith, at-start .pre .known .sheet .sized .limits .rules)))
 
 act-on-requires : tie.Need-act-on-requires
-act-on-requires c κs = (c .before .before .before .pre, (length-take-le _ _ (omega (arith, c .before .before .before .pre .known .sheet .sized .limits .facts)), length-take-le _ _ (omega (arith, c .before .before .before .pre .known .sheet .sized .limits .rules))))
+act-on-requires c κs =
+    let at-start = c .before .before .before in (
+      at-start .pre,
+      (
+        length-take-le _ _ (omega (arith, at-start .pre .known .sheet .sized .limits .facts)),
+        length-take-le _ _ (omega (arith, at-start .pre .known .sheet .sized .limits .rules)),
+      ),
+    )
 
 same-length : tie.Need-same-length
 same-length c = search needs
 
 returns : tie.Need-returns
-returns c = c .before .before .before .act-on .ensures
+returns c =
+    let at-act-on = c .before .before .before in
+    at-act-on .act-on .ensures
 
 pub act-spec : {M : Type 1} → statement M
 act-spec =

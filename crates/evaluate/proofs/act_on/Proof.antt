@@ -8,7 +8,10 @@ settle-requires : tie.Need-settle-requires
 settle-requires c κs = search needs
 
 attempt-requires : tie.Need-attempt-requires
-attempt-requires c κs = attemptable (c .before .before .before .before .before .before .before .before .pre .0) (c .before .before .before .before .before .settle .ensures .0) (c .before .before .before .before .before .settle .ensures .1)
+attempt-requires c κs =
+    let at-settle = c .before .before .before .before .before in
+    let at-start = at-settle .before .before .before in
+    attemptable (at-start .pre .0) (at-settle .settle .ensures .0) (at-settle .settle .ensures .1)
 
 same-length : tie.Need-same-length
 same-length c = search needs
@@ -20,7 +23,11 @@ same-length-3 : tie.Need-same-length-3
 same-length-3 c = search needs
 
 returns : tie.Need-returns
-returns c = (rw (c .before .before .before .before .before .before .before .settle .ensures .0, c .before .before .before .before .before .before .before .settle .ensures .1) at (c .before .attempt .ensures .0), rw (c .before .before .before .before .before .before .before .settle .ensures .0, c .before .before .before .before .before .before .before .settle .ensures .1) at (c .before .attempt .ensures .1))
+returns c =
+    let at-settle = c .before .before .before .before .before .before .before in (
+      rw (at-settle .settle .ensures .0, at-settle .settle .ensures .1) at (c .before .attempt .ensures .0),
+      rw (at-settle .settle .ensures .0, at-settle .settle .ensures .1) at (c .before .attempt .ensures .1),
+    )
 
 pub act-on-spec : {M : Type 1} → statement M
 act-on-spec =

@@ -13,7 +13,9 @@ slice-aggregate-settle : tie.Need-slice-aggregate-settle
 slice-aggregate-settle c = sym (length-take-le _ _ (omega (arith, c .before .pre .0 .sheet .sized .limits .facts)))
 
 settle-requires : tie.Need-settle-requires
-settle-requires c κs = (c .before .before .pre .0, (length-take-le _ _ (omega (arith, c .before .before .pre .0 .sheet .sized .limits .facts)), c .before .before .pre .1))
+settle-requires c κs =
+    let at-start = c .before .before in
+    (at-start .pre .0, (length-take-le _ _ (omega (arith, at-start .pre .0 .sheet .sized .limits .facts)), at-start .pre .1))
 
 same-length : tie.Need-same-length
 same-length c = search needs

@@ -8,7 +8,10 @@ assemble-requires : tie.Need-assemble-requires
 assemble-requires c κs = search needs
 
 fill-verdicts-requires : tie.Need-fill-verdicts-requires
-fill-verdicts-requires c κs = (c .before .before .before .before .before .pre .0 .sheet, rw (c .before .before .before .assemble .ensures) (known-in (c .before .before .before .before .before .pre .0)), c .before .before .before .before .before .pre .1 .1)
+fill-verdicts-requires c κs =
+    let at-assemble = c .before .before .before in
+    let at-start = at-assemble .before .before in
+    (at-start .pre .0 .sheet, rw (at-assemble .assemble .ensures) (known-in (at-start .pre .0)), at-start .pre .1 .1)
 
 same-length : tie.Need-same-length
 same-length c = search needs
@@ -17,7 +20,9 @@ same-length-2 : tie.Need-same-length-2
 same-length-2 c = search needs
 
 returns : tie.Need-returns
-returns c = (c .before .before .before .before .before .assemble .ensures, rw (c .before .before .before .before .before .assemble .ensures) at (c .before .fill-verdicts .ensures))
+returns c =
+    let at-assemble = c .before .before .before .before .before in
+    (at-assemble .assemble .ensures, rw (at-assemble .assemble .ensures) at (c .before .fill-verdicts .ensures))
 
 pub settle-spec : {M : Type 1} → statement M
 settle-spec =

@@ -47,7 +47,13 @@ loop-less : tie.Need-loop-less Inv-loop μ-loop
 loop-less c = search needs
 
 loop-again : tie.Need-loop-again Inv-loop μ-loop
-loop-again c = more _ _ _ _ _ _ _ (c .before .before .before .before .loop .inv) (c .before .before .before .loop-test .taken) (back-of (c .take-fact .result) (c .take-fact .ok) ∙ rw (back-of _ (c .before .before .take-fact-arg .given), back-of _ (c .before .take-fact-arg2 .given)) at (c .take-fact .ensures))
+loop-again c =
+    let at-take-fact-arg = c .before .before in
+    let at-loop-test = at-take-fact-arg .before in
+    let at-loop = at-loop-test .before in
+    more _ _ _ _ _ _ _ (at-loop .loop .inv) (at-loop-test .loop-test .taken)
+    (back-of (c .take-fact .result) (c .take-fact .ok)
+    ∙ rw (back-of _ (at-take-fact-arg .take-fact-arg .given), back-of _ (c .before .take-fact-arg2 .given)) at (c .take-fact .ensures))
 
 same-length : tie.Need-same-length Inv-loop μ-loop
 same-length c = search needs

@@ -17,16 +17,36 @@ given-in-range-requires : tie.Need-given-in-range-requires
 given-in-range-requires c κs = search needs
 
 returns : tie.Need-returns
-returns c = sym (defaulted _ _ _ _ (sym (rw (back (c .before .before .before .before .fits .g)) at (c .before .before .before .same .ensures)) ∙ c .before .before .if1 .taken) (eq-eqb _ 1 (sym (c .before .number .ensures) ∙ c .if2 .taken)))
+returns c =
+    let at-if1 = c .before .before in
+    let at-same = at-if1 .before in
+    let at-start = at-same .before in
+    sym (defaulted _ _ _ _ (sym (rw (back (at-start .fits .g)) at (at-same .same .ensures)) ∙ at-if1 .if1 .taken)
+    (eq-eqb _ 1 (sym (c .before .number .ensures) ∙ c .if2 .taken)))
 
 returns-2 : tie.Need-returns-2
-returns-2 c = sym (absent _ _ _ _ (sym (rw (back (c .before .before .before .before .fits .g)) at (c .before .before .before .same .ensures)) ∙ c .before .before .if1 .taken) (ne-eqb _ 1 (λ e. c .if2 .left (c .before .number .ensures ∙ e))))
+returns-2 c =
+    let at-if1 = c .before .before in
+    let at-same = at-if1 .before in
+    let at-start = at-same .before in
+    sym (absent _ _ _ _ (sym (rw (back (at-start .fits .g)) at (at-same .same .ensures)) ∙ at-if1 .if1 .taken)
+    (ne-eqb _ 1 (λ e. c .if2 .left (c .before .number .ensures ∙ e))))
 
 returns-3 : tie.Need-returns-3
-returns-3 c = sym (fair _ _ _ _ (sym (rw (back (c .before .before .before .before .fits .g)) at (c .before .before .before .same .ensures)) ∙ c .before .before .if1 .left) (sym (rw (back (c .before .before .before .before .fits .g), back (c .before .before .before .before .fits .x)) at (c .before .given-in-range .ensures)) ∙ c .if3 .taken))
+returns-3 c =
+    let at-if1 = c .before .before in
+    let at-same = at-if1 .before in
+    let at-start = at-same .before in
+    sym (fair _ _ _ _ (sym (rw (back (at-start .fits .g)) at (at-same .same .ensures)) ∙ at-if1 .if1 .left)
+    (sym (rw (back (at-start .fits .g), back (at-start .fits .x)) at (c .before .given-in-range .ensures)) ∙ c .if3 .taken))
 
 returns-4 : tie.Need-returns-4
-returns-4 c = sym (unfair _ _ _ _ (sym (rw (back (c .before .before .before .before .fits .g)) at (c .before .before .before .same .ensures)) ∙ c .before .before .if1 .left) (sym (rw (back (c .before .before .before .before .fits .g), back (c .before .before .before .before .fits .x)) at (c .before .given-in-range .ensures)) ∙ c .if3 .left))
+returns-4 c =
+    let at-if1 = c .before .before in
+    let at-same = at-if1 .before in
+    let at-start = at-same .before in
+    sym (unfair _ _ _ _ (sym (rw (back (at-start .fits .g)) at (at-same .same .ensures)) ∙ at-if1 .if1 .left)
+    (sym (rw (back (at-start .fits .g), back (at-start .fits .x)) at (c .before .given-in-range .ensures)) ∙ c .if3 .left))
 
 pub fact-fault-spec : {M : Type 1} → statement M
 fact-fault-spec =

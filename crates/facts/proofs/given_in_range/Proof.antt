@@ -17,7 +17,20 @@ within-requires : tie.Need-within-requires
 within-requires c κs = search needs
 
 returns : tie.Need-returns
-returns c = rw (c .before .before .before .same .ensures, c .within .ensures, back (c .before .before .before .before .fits .g), back (c .before .before .before .before .fits .x), back-of (c .before .before .word .result) (c .before .before .word .ok), back-of (c .before .word2 .result) (c .before .word2 .ok), c .before .before .word .ensures, c .before .word2 .ensures)
+returns c =
+    let at-word = c .before .before in
+    let at-same = at-word .before in
+    let at-start = at-same .before in
+    rw (
+      at-same .same .ensures,
+      c .within .ensures,
+      back (at-start .fits .g),
+      back (at-start .fits .x),
+      back-of (at-word .word .result) (at-word .word .ok),
+      back-of (c .before .word2 .result) (c .before .word2 .ok),
+      at-word .word .ensures,
+      c .before .word2 .ensures,
+    )
 
 pub given-in-range-spec : {M : Type 1} → statement M
 given-in-range-spec =

@@ -39,7 +39,16 @@ enum-known-fault c = search needs
 
 returns : tie.Need-returns Inv-loop μ-loop
 unfolding factsFault
-returns c = sym (stopped _ _ _ _ (c .before .before .before .before .before .before .before .loop .inv) (c .before .before .before .before .before .before .loop-test .taken) (sym (rw (back-of _ (c .before .before .before .before .before .fact-fault-arg .given), back-of _ (c .before .before .before .before .fact-fault-arg2 .given)) at (c .before .before .before .fact-fault .ensures)) ∙ c .before .fault .given .1))
+returns c =
+    let at-fact-fault = c .before .before .before in
+    let at-fact-fault-arg2 = at-fact-fault .before in
+    let at-fact-fault-arg = at-fact-fault-arg2 .before in
+    let at-loop-test = at-fact-fault-arg .before in
+    let at-loop = at-loop-test .before in
+    sym (stopped _ _ _ _ (at-loop .loop .inv) (at-loop-test .loop-test .taken)
+    (sym (rw (back-of _ (at-fact-fault-arg .fact-fault-arg .given), back-of _ (at-fact-fault-arg2 .fact-fault-arg2 .given))
+    at (at-fact-fault .fact-fault .ensures))
+    ∙ c .before .fault .given .1))
 
 enum-told : tie.Need-enum-told Inv-loop μ-loop
 enum-told c = search needs
@@ -51,7 +60,16 @@ loop-less : tie.Need-loop-less Inv-loop μ-loop
 loop-less c = search needs
 
 loop-again : tie.Need-loop-again Inv-loop μ-loop
-loop-again c = more _ _ _ (c .before .before .before .before .before .before .loop .inv) (c .before .before .before .before .before .loop-test .taken) (sym (rw (back-of _ (c .before .before .before .before .fact-fault-arg .given), back-of _ (c .before .before .before .fact-fault-arg2 .given)) at (c .before .before .fact-fault .ensures)) ∙ c .enum-told .given .1)
+loop-again c =
+    let at-fact-fault = c .before .before in
+    let at-fact-fault-arg2 = at-fact-fault .before in
+    let at-fact-fault-arg = at-fact-fault-arg2 .before in
+    let at-loop-test = at-fact-fault-arg .before in
+    let at-loop = at-loop-test .before in
+    more _ _ _ (at-loop .loop .inv) (at-loop-test .loop-test .taken)
+    (sym (rw (back-of _ (at-fact-fault-arg .fact-fault-arg .given), back-of _ (at-fact-fault-arg2 .fact-fault-arg2 .given))
+    at (at-fact-fault .fact-fault .ensures))
+    ∙ c .enum-told .given .1)
 
 returns-2 : tie.Need-returns-2 Inv-loop μ-loop
 unfolding factsFault

@@ -16,7 +16,9 @@ enum-known-h : tie.Need-enum-known-h
 enum-known-h c = search needs
 
 path-lent-requires : tie.Need-path-lent-requires
-path-lent-requires c κs = sheet-open _ (c .before .before .before .open-sheet .ensures) (c .before .h .given .1) .sheet
+path-lent-requires c κs =
+    let at-open-sheet = c .before .before .before in
+    sheet-open _ (at-open-sheet .open-sheet .ensures) (c .before .h .given .1) .sheet
 
 exists-requires : tie.Need-exists-requires
 exists-requires c κs = search needs
@@ -34,13 +36,33 @@ num-requires : tie.Need-num-requires
 num-requires c κs = search needs
 
 returns : tie.Need-returns
-returns c = enter-shut _ _ _ (c .before .before .before .open-sheet .ensures) (c .before .r .given .1)
+returns c =
+    let at-open-sheet = c .before .before .before in
+    enter-shut _ _ _ (at-open-sheet .open-sheet .ensures) (c .before .r .given .1)
 
 returns-2 : tie.Need-returns-2
-returns-2 c = enter-stopped _ _ _ (sheet-open _ (c .before .before .before .before .before .before .before .before .before .open-sheet .ensures) (c .before .before .before .before .before .before .before .h .given .1)) (rw (back (c .before .before .before .before .before .before .before .before .before .before .fits .flow)) at (c .before .before .before .before .before .path-lent .ensures)) (rw (back (c .before .before .before .before .before .before .before .before .before .before .fits .flow)) at (c .before .before .before .before .exists .ensures)) (c .before .before .before .judge-call .ensures) (c .before .r2 .given .1)
+returns-2 c =
+    let at-judge-call = c .before .before .before in
+    let at-exists = at-judge-call .before in
+    let at-path-lent = at-exists .before in
+    let at-h = at-path-lent .before .before in
+    let at-open-sheet = at-h .before .before in
+    let at-start = at-open-sheet .before in
+    enter-stopped _ _ _ (sheet-open _ (at-open-sheet .open-sheet .ensures) (at-h .h .given .1))
+    (rw (back (at-start .fits .flow)) at (at-path-lent .path-lent .ensures)) (rw (back (at-start .fits .flow)) at (at-exists .exists .ensures))
+    (at-judge-call .judge-call .ensures) (c .before .r2 .given .1)
 
 returns-3 : tie.Need-returns-3
-returns-3 c = enter-done _ _ _ (sheet-open _ (c .before .before .before .before .before .before .before .before .before .open-sheet .ensures) (c .before .before .before .before .before .before .before .h .given .1)) (rw (back (c .before .before .before .before .before .before .before .before .before .before .fits .flow)) at (c .before .before .before .before .before .path-lent .ensures)) (rw (back (c .before .before .before .before .before .before .before .before .before .before .fits .flow)) at (c .before .before .before .before .exists .ensures)) (c .before .before .before .judge-call .ensures) (c .before .enum-told .given .1) (rw (back (c .before .before .before .before .before .before .before .before .before .before .fits .flow)) at (c .num .ensures))
+returns-3 c =
+    let at-judge-call = c .before .before .before in
+    let at-exists = at-judge-call .before in
+    let at-path-lent = at-exists .before in
+    let at-h = at-path-lent .before .before in
+    let at-open-sheet = at-h .before .before in
+    let at-start = at-open-sheet .before in
+    enter-done _ _ _ (sheet-open _ (at-open-sheet .open-sheet .ensures) (at-h .h .given .1))
+    (rw (back (at-start .fits .flow)) at (at-path-lent .path-lent .ensures)) (rw (back (at-start .fits .flow)) at (at-exists .exists .ensures))
+    (at-judge-call .judge-call .ensures) (c .before .enum-told .given .1) (rw (back (at-start .fits .flow)) at (c .num .ensures))
 
 pub enter-spec : {M : Type 1} → statement M
 enter-spec =

@@ -15,16 +15,29 @@ enum-known-h : tie.Need-enum-known-h
 enum-known-h c = search needs
 
 first-requires : tie.Need-first-requires
-first-requires c κs = in-lent _ _ _ (entered-in _ _ _ (rw (back (c .before .before .before .before .before .before .fits .flow)) at (c .before .before .before .before .enter .ensures)) (c .before .before .h .given .1))
+first-requires c κs =
+    let at-h = c .before .before in
+    let at-enter = at-h .before .before in
+    let at-start = at-enter .before .before in
+    in-lent _ _ _ (entered-in _ _ _ (rw (back (at-start .fits .flow)) at (at-enter .enter .ensures)) (at-h .h .given .1))
 
 returns : tie.Need-returns
-returns c = first-refused _ _ _ (rw (back (c .before .before .before .before .before .fits .flow)) at (c .before .before .before .enter .ensures)) (c .before .r .given .1)
+returns c =
+    let at-enter = c .before .before .before in
+    let at-start = at-enter .before .before in
+    first-refused _ _ _ (rw (back (at-start .fits .flow)) at (at-enter .enter .ensures)) (c .before .r .given .1)
 
 same-length : tie.Need-same-length
 same-length c = search needs
 
 returns-2 : tie.Need-returns-2
-returns-2 c = first-done _ _ _ (entered-in _ _ _ (rw (back (c .before .before .before .before .before .before .before .before .before .fits .flow)) at (c .before .before .before .before .before .before .before .enter .ensures)) (c .before .before .before .before .before .h .given .1)) (c .before .before .first .ensures .0) (c .before .before .first .ensures .1)
+returns-2 c =
+    let at-first = c .before .before in
+    let at-h = at-first .before .before .before in
+    let at-enter = at-h .before .before in
+    let at-start = at-enter .before .before in
+    first-done _ _ _ (entered-in _ _ _ (rw (back (at-start .fits .flow)) at (at-enter .enter .ensures)) (at-h .h .given .1))
+    (at-first .first .ensures .0) (at-first .first .ensures .1)
 
 pub first-spec : {M : Type 1} → statement M
 first-spec =

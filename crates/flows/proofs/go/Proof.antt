@@ -10,16 +10,27 @@ array-borrow-prefix-facts : tie.Need-array-borrow-prefix-facts
 array-borrow-prefix-facts c = search needs
 
 slice-aggregate-go-on : tie.Need-slice-aggregate-go-on
-slice-aggregate-go-on c = sym (length-take-le _ _ (omega (arith, c .before .before .pre .known .sheet .sized .limits .facts)))
+slice-aggregate-go-on c =
+    let at-start = c .before .before in
+    sym (length-take-le _ _ (omega (arith, at-start .pre .known .sheet .sized .limits .facts)))
 
 array-borrow-prefix-verdicts : tie.Need-array-borrow-prefix-verdicts
 array-borrow-prefix-verdicts c = search needs
 
 slice-aggregate-go-on-2 : tie.Need-slice-aggregate-go-on-2
-slice-aggregate-go-on-2 c = sym (length-take-le _ _ (omega (arith, c .before .before .before .pre .known .sheet .sized .limits .rules)))
+slice-aggregate-go-on-2 c =
+    let at-start = c .before .before .before in
+    sym (length-take-le _ _ (omega (arith, at-start .pre .known .sheet .sized .limits .rules)))
 
 go-on-requires : tie.Need-go-on-requires
-go-on-requires c κs = (c .before .before .before .before .before .pre, (length-take-le _ _ (omega (arith, c .before .before .before .before .before .pre .known .sheet .sized .limits .facts)), length-take-le _ _ (omega (arith, c .before .before .before .before .before .pre .known .sheet .sized .limits .rules))))
+go-on-requires c κs =
+    let at-start = c .before .before .before .before .before in (
+      at-start .pre,
+      (
+        length-take-le _ _ (omega (arith, at-start .pre .known .sheet .sized .limits .facts)),
+        length-take-le _ _ (omega (arith, at-start .pre .known .sheet .sized .limits .rules)),
+      ),
+    )
 
 same-length : tie.Need-same-length
 same-length c = search needs
@@ -28,7 +39,9 @@ same-length-2 : tie.Need-same-length-2
 same-length-2 c = search needs
 
 returns : tie.Need-returns
-returns c = c .before .before .before .before .before .go-on .ensures
+returns c =
+    let at-go-on = c .before .before .before .before .before in
+    at-go-on .go-on .ensures
 
 pub go-spec : {M : Type 1} → statement M
 go-spec =

@@ -5,10 +5,15 @@ use Rattle.flows.proofs.go_on.Statement.{statement}
 use Rattle.flows.proofs.go_on.Tie as tie
 
 settle-requires : tie.Need-settle-requires
-settle-requires c κs = (c .before .before .before .pre .0 .known, c .before .before .before .pre .1)
+settle-requires c κs =
+    let at-start = c .before .before .before in
+    (at-start .pre .0 .known, at-start .pre .1)
 
 run-requires : tie.Need-run-requires
-run-requires c κs = runnable (c .before .before .before .before .before .before .before .before .before .before .pre .0) (c .before .before .before .before .before .before .settle .ensures .0) (c .before .before .before .before .before .before .settle .ensures .1)
+run-requires c κs =
+    let at-settle = c .before .before .before .before .before .before in
+    let at-start = at-settle .before .before .before .before in
+    runnable (at-start .pre .0) (at-settle .settle .ensures .0) (at-settle .settle .ensures .1)
 
 same-length : tie.Need-same-length
 same-length c = search needs
@@ -23,7 +28,15 @@ same-length-4 : tie.Need-same-length-4
 same-length-4 c = search needs
 
 returns : tie.Need-returns
-returns c = (rw (c .before .before .before .before .before .before .before .before .before .before .settle .ensures .0, c .before .before .before .before .before .before .before .before .before .before .settle .ensures .1) at (c .before .before .before .run .ensures .0), (rw (c .before .before .before .before .before .before .before .before .before .before .settle .ensures .0, c .before .before .before .before .before .before .before .before .before .before .settle .ensures .1) at (c .before .before .before .run .ensures .1 .0), rw (c .before .before .before .before .before .before .before .before .before .before .settle .ensures .0, c .before .before .before .before .before .before .before .before .before .before .settle .ensures .1) at (c .before .before .before .run .ensures .1 .1)))
+returns c =
+    let at-run = c .before .before .before in
+    let at-settle = at-run .before .before .before .before .before .before .before in (
+      rw (at-settle .settle .ensures .0, at-settle .settle .ensures .1) at (at-run .run .ensures .0),
+      (
+        rw (at-settle .settle .ensures .0, at-settle .settle .ensures .1) at (at-run .run .ensures .1 .0),
+        rw (at-settle .settle .ensures .0, at-settle .settle .ensures .1) at (at-run .run .ensures .1 .1),
+      ),
+    )
 
 pub go-on-spec : {M : Type 1} → statement M
 go-on-spec =

@@ -15,16 +15,29 @@ enum-known-h : tie.Need-enum-known-h
 enum-known-h c = search needs
 
 next-requires : tie.Need-next-requires
-next-requires c κs = in-lent _ _ _ (entered-in _ _ _ (rw (back (c .before .before .before .before .before .before .fits .flow)) at (c .before .before .before .before .enter .ensures)) (c .before .before .h .given .1))
+next-requires c κs =
+    let at-h = c .before .before in
+    let at-enter = at-h .before .before in
+    let at-start = at-enter .before .before in
+    in-lent _ _ _ (entered-in _ _ _ (rw (back (at-start .fits .flow)) at (at-enter .enter .ensures)) (at-h .h .given .1))
 
 returns : tie.Need-returns
-returns c = next-refused _ _ _ (rw (back (c .before .before .before .before .before .fits .flow)) at (c .before .before .before .enter .ensures)) (c .before .r .given .1)
+returns c =
+    let at-enter = c .before .before .before in
+    let at-start = at-enter .before .before in
+    next-refused _ _ _ (rw (back (at-start .fits .flow)) at (at-enter .enter .ensures)) (c .before .r .given .1)
 
 same-length : tie.Need-same-length
 same-length c = search needs
 
 returns-2 : tie.Need-returns-2
-returns-2 c = next-done _ _ _ (entered-in _ _ _ (rw (back (c .before .before .before .before .before .before .before .before .before .fits .flow)) at (c .before .before .before .before .before .before .before .enter .ensures)) (c .before .before .before .before .before .h .given .1)) (c .before .before .next .ensures .0) (c .before .before .next .ensures .1)
+returns-2 c =
+    let at-next = c .before .before in
+    let at-h = at-next .before .before .before in
+    let at-enter = at-h .before .before in
+    let at-start = at-enter .before .before in
+    next-done _ _ _ (entered-in _ _ _ (rw (back (at-start .fits .flow)) at (at-enter .enter .ensures)) (at-h .h .given .1))
+    (at-next .next .ensures .0) (at-next .next .ensures .1)
 
 pub next-spec : {M : Type 1} → statement M
 next-spec =

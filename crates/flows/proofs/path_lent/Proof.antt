@@ -14,13 +14,26 @@ num-requires : tie.Need-num-requires
 num-requires c κs = search needs
 
 steps-requires : tie.Need-steps-requires
-steps-requires c κs = (c .before .before .before .pre .sized, rw (c .num .ensures, back (c .before .before .before .fits .flow)) (ltb-true _ _ (sym (rw (back (c .before .before .before .fits .flow)) at (c .before .before .exists .ensures)) ∙ c .before .if1 .taken)))
+steps-requires c κs =
+    let at-exists = c .before .before in
+    let at-start = at-exists .before in (
+      at-start .pre .sized,
+      rw (c .num .ensures, back (at-start .fits .flow))
+          (ltb-true _ _ (sym (rw (back (at-start .fits .flow)) at (at-exists .exists .ensures)) ∙ c .before .if1 .taken)),
+    )
 
 returns : tie.Need-returns
-returns c = rw (c .steps .ensures, c .before .num .ensures, back (c .before .before .before .before .fits .flow)) (sym (path-judged _ _ _ _ (sym (rw (back (c .before .before .before .before .fits .flow)) at (c .before .before .before .exists .ensures)) ∙ c .before .before .if1 .taken)))
+returns c =
+    let at-if1 = c .before .before in
+    let at-exists = at-if1 .before in
+    let at-start = at-exists .before in
+    rw (c .steps .ensures, c .before .num .ensures, back (at-start .fits .flow))
+    (sym (path-judged _ _ _ _ (sym (rw (back (at-start .fits .flow)) at (at-exists .exists .ensures)) ∙ at-if1 .if1 .taken)))
 
 returns-2 : tie.Need-returns-2
-returns-2 c = sym (path-unjudged _ _ _ _ (sym (rw (back (c .before .before .fits .flow)) at (c .before .exists .ensures)) ∙ c .if1 .left))
+returns-2 c =
+    let at-start = c .before .before in
+    sym (path-unjudged _ _ _ _ (sym (rw (back (at-start .fits .flow)) at (c .before .exists .ensures)) ∙ c .if1 .left))
 
 pub path-lent-spec : {M : Type 1} → statement M
 path-lent-spec = tie.close (tie.spec exists-requires num-requires steps-requires returns returns-2)

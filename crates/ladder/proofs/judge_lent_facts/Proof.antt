@@ -16,13 +16,20 @@ enum-told : tie.Need-enum-told
 enum-told c = search needs
 
 judge-facts-requires : tie.Need-judge-facts-requires
-judge-facts-requires c κs = let q = simp tests at (lengths-good _ _ _ _ (c .before .before .judge-call .ensures) (c .enum-told .given .1)) in (c .before .before .before .before .before .pre, q .1 .0, q .1 .1)
+judge-facts-requires c κs =
+    let at-judge-call = c .before .before in
+    let at-start = at-judge-call .before .before .before in
+    let q = simp tests at (lengths-good _ _ _ _ (at-judge-call .judge-call .ensures) (c .enum-told .given .1)) in (at-start .pre, q .1 .0, q .1 .1)
 
 returns : tie.Need-returns
-returns c = sym (stop-call _ _ _ _ _ (sym (c .before .before .before .judge-call .ensures) ∙ c .before .r .given .1))
+returns c =
+    let at-judge-call = c .before .before .before in
+    sym (stop-call _ _ _ _ _ (sym (at-judge-call .judge-call .ensures) ∙ c .before .r .given .1))
 
 returns-2 : tie.Need-returns-2
-returns-2 c = c .judge-facts .ensures ∙ sym (then-facts _ _ _ (sym (c .before .before .before .judge-call .ensures) ∙ c .before .enum-told .given .1))
+returns-2 c =
+    let at-judge-call = c .before .before .before in
+    c .judge-facts .ensures ∙ sym (then-facts _ _ _ (sym (at-judge-call .judge-call .ensures) ∙ c .before .enum-told .given .1))
 
 pub judge-lent-facts-spec : {M : Type 1} → statement M
 judge-lent-facts-spec =

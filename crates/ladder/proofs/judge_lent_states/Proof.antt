@@ -16,13 +16,21 @@ enum-told : tie.Need-enum-told
 enum-told c = search needs
 
 judge-states-requires : tie.Need-judge-states-requires
-judge-states-requires c κs = let q = simp tests at (lengths-good _ _ _ _ (c .before .before .judge-lent-facts .ensures) (c .enum-told .given .1)) in (c .before .before .before .before .pre .sized, q .0 .1)
+judge-states-requires c κs =
+    let at-judge-lent-facts = c .before .before in
+    let at-start = at-judge-lent-facts .before .before in
+    let q = simp tests at (lengths-good _ _ _ _ (at-judge-lent-facts .judge-lent-facts .ensures) (c .enum-told .given .1)) in
+    (at-start .pre .sized, q .0 .1)
 
 returns : tie.Need-returns
-returns c = sym (stop-facts _ _ _ _ _ (sym (c .before .before .before .judge-lent-facts .ensures) ∙ c .before .r .given .1))
+returns c =
+    let at-judge-lent-facts = c .before .before .before in
+    sym (stop-facts _ _ _ _ _ (sym (at-judge-lent-facts .judge-lent-facts .ensures) ∙ c .before .r .given .1))
 
 returns-2 : tie.Need-returns-2
-returns-2 c = c .judge-states .ensures ∙ sym (then-states _ _ _ _ (sym (c .before .before .before .judge-lent-facts .ensures) ∙ c .before .enum-told .given .1))
+returns-2 c =
+    let at-judge-lent-facts = c .before .before .before in
+    c .judge-states .ensures ∙ sym (then-states _ _ _ _ (sym (at-judge-lent-facts .judge-lent-facts .ensures) ∙ c .before .enum-told .given .1))
 
 pub judge-lent-states-spec : {M : Type 1} → statement M
 judge-lent-states-spec =

@@ -14,7 +14,9 @@ enum-told : tie.Need-enum-told
 enum-told c = search needs
 
 read-requires : tie.Need-read-requires
-read-requires c κs = sixteen _ (header-good _ (sym (c .before .before .before .before .check-ranges .ensures .0) ∙ c .enum-told .given .1))
+read-requires c κs =
+    let at-check-ranges = c .before .before .before .before in
+    sixteen _ (header-good _ (sym (at-check-ranges .check-ranges .ensures .0) ∙ c .enum-told .given .1))
 
 enum-known-r : tie.Need-enum-known-r
 enum-known-r c = search needs
@@ -26,7 +28,11 @@ same-length-2 : tie.Need-same-length-2
 same-length-2 c = search needs
 
 returns : tie.Need-returns
-returns c = (rw (c .read .ensures) (sym (opened-done _ (sym (c .before .before .before .before .before .check-ranges .ensures .0) ∙ c .before .enum-told .given .1))), λ e. c .before .before .before .before .before .check-ranges .ensures .1 (c .before .enum-told .given .1))
+returns c =
+    let at-check-ranges = c .before .before .before .before .before in (
+      rw (c .read .ensures) (sym (opened-done _ (sym (at-check-ranges .check-ranges .ensures .0) ∙ c .before .enum-told .given .1))),
+      λ e. at-check-ranges .check-ranges .ensures .1 (c .before .enum-told .given .1),
+    )
 
 same-length-3 : tie.Need-same-length-3
 same-length-3 c = search needs
@@ -35,7 +41,11 @@ same-length-4 : tie.Need-same-length-4
 same-length-4 c = search needs
 
 returns-2 : tie.Need-returns-2
-returns-2 c = (sym (opened-not _ _ (sym (c .before .before .before .before .before .check-ranges .ensures .0) ∙ c .before .r .given .1)), λ e. absurd (not-accepted (sym (c .before .before .before .before .before .check-ranges .ensures .0) ∙ c .before .r .given .1) e))
+returns-2 c =
+    let at-check-ranges = c .before .before .before .before .before in (
+      sym (opened-not _ _ (sym (at-check-ranges .check-ranges .ensures .0) ∙ c .before .r .given .1)),
+      λ e. absurd (not-accepted (sym (at-check-ranges .check-ranges .ensures .0) ∙ c .before .r .given .1) e),
+    )
 
 pub open-ranges-spec : {M : Type 1} → statement M
 open-ranges-spec =

@@ -14,16 +14,22 @@ enum-told : tie.Need-enum-told
 enum-told c = search needs
 
 read-requires : tie.Need-read-requires
-read-requires c κs = sixteen _ (header-good _ (sym (c .before .before .check .ensures) ∙ c .enum-told .given .1))
+read-requires c κs =
+    let at-check = c .before .before in
+    sixteen _ (header-good _ (sym (at-check .check .ensures) ∙ c .enum-told .given .1))
 
 enum-known-r : tie.Need-enum-known-r
 enum-known-r c = search needs
 
 returns : tie.Need-returns
-returns c = rw (c .read .ensures) (sym (opened-done _ (sym (c .before .before .before .check .ensures) ∙ c .before .enum-told .given .1)))
+returns c =
+    let at-check = c .before .before .before in
+    rw (c .read .ensures) (sym (opened-done _ (sym (at-check .check .ensures) ∙ c .before .enum-told .given .1)))
 
 returns-2 : tie.Need-returns-2
-returns-2 c = sym (opened-not _ _ (sym (c .before .before .before .check .ensures) ∙ c .before .r .given .1))
+returns-2 c =
+    let at-check = c .before .before .before in
+    sym (opened-not _ _ (sym (at-check .check .ensures) ∙ c .before .r .given .1))
 
 pub open-sheet-spec : {M : Type 1} → statement M
 open-sheet-spec =

@@ -21,7 +21,17 @@ number-at-requires-5 c κs = search needs
 
 returns : tie.Need-returns
 unfolding goodFrame
-returns c = rw (c .before .before .before .before .number-at .ensures, c .before .before .before .number-at2 .ensures, c .before .before .number-at3 .ensures, c .before .number-at4 .ensures, c .number-at5 .ensures)
+returns c =
+    let at-number-at3 = c .before .before in
+    let at-number-at2 = at-number-at3 .before in
+    let at-number-at = at-number-at2 .before in
+    rw (
+      at-number-at .number-at .ensures,
+      at-number-at2 .number-at2 .ensures,
+      at-number-at3 .number-at3 .ensures,
+      c .before .number-at4 .ensures,
+      c .number-at5 .ensures,
+    )
 
 pub good-frame-spec : {M : Type 1} → statement M
 good-frame-spec =

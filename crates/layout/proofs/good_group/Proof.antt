@@ -22,7 +22,10 @@ number-requires : tie.Need-number-requires Inv-loop μ-loop
 number-requires c κs = search needs
 
 returns : tie.Need-returns Inv-loop μ-loop
-returns c = one-bad _ _ _ (c .before .before .before .loop .i) (c .before .before .loop-test .taken) (rw (← c .before .number .ensures) (c .if1 .taken))
+returns c =
+    let at-loop-test = c .before .before in
+    let at-loop = at-loop-test .before in
+    one-bad _ _ _ (at-loop .loop .i) (at-loop-test .loop-test .taken) (rw (← c .before .number .ensures) (c .if1 .taken))
 
 add-sum : tie.Need-add-sum Inv-loop μ-loop
 add-sum c = search needs
@@ -34,7 +37,10 @@ loop-less : tie.Need-loop-less Inv-loop μ-loop
 loop-less c = search needs
 
 loop-again : tie.Need-loop-again Inv-loop μ-loop
-loop-again c = more _ _ _ _ _ (c .before .before .before .loop .inv) (c .before .before .loop-test .taken) (c .before .number .ensures) (c .if1 .left)
+loop-again c =
+    let at-loop-test = c .before .before in
+    let at-loop = at-loop-test .before in
+    more _ _ _ _ _ (at-loop .loop .inv) (at-loop-test .loop-test .taken) (c .before .number .ensures) (c .if1 .left)
 
 returns-2 : tie.Need-returns-2 Inv-loop μ-loop
 returns-2 c = all-good _ _ _ _ _ (c .before .loop .inv) (c .loop-test .left)

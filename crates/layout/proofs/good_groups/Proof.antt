@@ -24,7 +24,13 @@ good-group-requires-3 c κs = search needs
 
 returns : tie.Need-returns
 unfolding goodGroups
-returns c = rw (c .before .before .before .before .good-group .ensures, c .before .before .good-group2 .ensures, c .good-group3 .ensures) (simp (c .before .before .before .before .before .first-operation .ensures, c .before .before .before .first-flow .ensures, c .before .first-step .ensures))
+returns c =
+    let at-good-group2 = c .before .before in
+    let at-first-flow = at-good-group2 .before in
+    let at-good-group = at-first-flow .before in
+    let at-first-operation = at-good-group .before in
+    rw (at-good-group .good-group .ensures, at-good-group2 .good-group2 .ensures, c .good-group3 .ensures)
+    (simp (at-first-operation .first-operation .ensures, at-first-flow .first-flow .ensures, c .before .first-step .ensures))
 
 pub good-groups-spec : {M : Type 1} → statement M
 good-groups-spec =

@@ -16,25 +16,49 @@ loop-holds : tie.Need-loop-holds Inv-loop μ-loop
 loop-holds c = descend-none (c .before .pre)
 
 first-route-requires : tie.Need-first-route-requires Inv-loop μ-loop
-first-route-requires c κs = (c .before .before .before .before .pre .sheet .sized, descend-step (c .before .before .loop .inv) (c .if1 .taken))
+first-route-requires c κs =
+    let at-loop = c .before .before in
+    let at-start = at-loop .before .before in
+    (at-start .pre .sheet .sized, descend-step (at-loop .loop .inv) (c .if1 .taken))
 
 cast-path : tie.Need-cast-path Inv-loop μ-loop
-cast-path c = omega (arith, descend-route (c .before .before .before .loop .inv) (c .before .if1 .taken) _ (c .first-route .ensures), c .before .before .before .before .before .pre .sheet .sized .limits .routes)
+cast-path c =
+    let at-loop = c .before .before .before in
+    let at-start = at-loop .before .before in
+    omega (arith, descend-route (at-loop .loop .inv) (c .before .if1 .taken) _ (c .first-route .ensures), at-start .pre .sheet .sized .limits .routes)
 
 mul-path : tie.Need-mul-path Inv-loop μ-loop
-mul-path c = omega (arith, descend-room (c .before .before .before .loop .inv) (c .before .if1 .taken), c .before .before .before .loop .inv .size)
+mul-path c =
+    let at-loop = c .before .before .before in
+    omega (arith, descend-room (at-loop .loop .inv) (c .before .if1 .taken), at-loop .loop .inv .size)
 
 slice-write-path : tie.Need-slice-write-path Inv-loop μ-loop
-slice-write-path c = descend-room (c .before .before .before .loop .inv) (c .before .if1 .taken)
+slice-write-path c =
+    let at-loop = c .before .before .before in
+    descend-room (at-loop .loop .inv) (c .before .if1 .taken)
 
 take-requires : tie.Need-take-requires Inv-loop μ-loop
-take-requires c κs = (c .before .before .before .before .before .pre .sheet .sized, (descend-route (c .before .before .before .loop .inv) (c .before .if1 .taken) _ (c .first-route .ensures), omega (arith, descend-room (c .before .before .before .loop .inv) (c .before .if1 .taken), c .before .before .before .loop .inv .size)))
+take-requires c κs =
+    let at-loop = c .before .before .before in
+    let at-start = at-loop .before .before in (
+      at-start .pre .sheet .sized,
+      (
+        descend-route (at-loop .loop .inv) (c .before .if1 .taken) _ (c .first-route .ensures),
+        omega (arith, descend-room (at-loop .loop .inv) (c .before .if1 .taken), at-loop .loop .inv .size),
+      ),
+    )
 
 loop-less : tie.Need-loop-less Inv-loop μ-loop
-loop-less c = descend-less (c .before .before .before .before .loop .inv) (c .before .before .if1 .taken) (c .before .first-route .ensures) (c .take .ensures)
+loop-less c =
+    let at-if1 = c .before .before in
+    let at-loop = at-if1 .before .before in
+    descend-less (at-loop .loop .inv) (at-if1 .if1 .taken) (c .before .first-route .ensures) (c .take .ensures)
 
 loop-again : tie.Need-loop-again Inv-loop μ-loop
-loop-again c = descend-more (c .before .before .before .before .loop .inv) (c .before .before .if1 .taken) (c .before .first-route .ensures) (c .take .ensures)
+loop-again c =
+    let at-if1 = c .before .before in
+    let at-loop = at-if1 .before .before in
+    descend-more (at-loop .loop .inv) (at-if1 .if1 .taken) (c .before .first-route .ensures) (c .take .ensures)
 
 same-length : tie.Need-same-length Inv-loop μ-loop
 same-length c = c .before .before .loop .inv .size

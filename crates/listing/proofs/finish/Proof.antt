@@ -8,13 +8,23 @@ descend-requires : tie.Need-descend-requires
 descend-requires c κs = c .before .before .pre
 
 clear-requires : tie.Need-clear-requires
-clear-requires c κs = finish-room _ (c .before .before .before .before .before .before .pre) (c .before .before .before .descend .ensures .0) (c .before .before .before .descend .ensures .1)
+clear-requires c κs =
+    let at-descend = c .before .before .before in
+    let at-start = at-descend .before .before .before in
+    finish-room _ (at-start .pre) (at-descend .descend .ensures .0) (at-descend .descend .ensures .1)
 
 same-length : tie.Need-same-length
-same-length c = c .before .before .clear .kept .0 ∙ c .before .before .before .before .before .before .descend .kept .1 .1 .1 .0
+same-length c =
+    let at-clear = c .before .before in
+    let at-descend = at-clear .before .before .before .before in
+    at-clear .clear .kept .0 ∙ at-descend .descend .kept .1 .1 .1 .0
 
 returns : tie.Need-returns
-returns c = finish-done _ (c .before .before .before .before .before .before .before .before .before .pre) (c .before .before .before .before .before .before .descend .ensures .0) (c .before .before .before .before .before .before .descend .ensures .1) (c .before .before .clear .ensures)
+returns c =
+    let at-clear = c .before .before in
+    let at-descend = at-clear .before .before .before .before in
+    let at-start = at-descend .before .before .before in
+    finish-done _ (at-start .pre) (at-descend .descend .ensures .0) (at-descend .descend .ensures .1) (at-clear .clear .ensures)
 
 pub finish-spec : {M : Type 1} → statement M
 finish-spec = tie.close (tie.spec descend-requires clear-requires same-length returns)

@@ -18,7 +18,13 @@ steps-requires : tie.Need-steps-requires Inv-loop μ-loop
 steps-requires c κs = (c .before .pre .0 .sized, c .before .pre .1)
 
 add-step : tie.Need-add-step Inv-loop μ-loop
-add-step c = omega (arith, deep-end (c .before .before .pre .0) _ (c .before .before .pre .1) (c .before .first-step .ensures) (c .steps .ensures), c .before .before .pre .0 .sized .limits .steps)
+add-step c =
+    let at-start = c .before .before in
+    omega (
+      arith,
+      deep-end (at-start .pre .0) _ (at-start .pre .1) (c .before .first-step .ensures) (c .steps .ensures),
+      at-start .pre .0 .sized .limits .steps,
+    )
 
 loop-holds : tie.Need-loop-holds Inv-loop μ-loop
 loop-holds c = deep-none _ _ _ _
@@ -30,28 +36,81 @@ slice-aggregate-step-depth : tie.Need-slice-aggregate-step-depth Inv-loop μ-loo
 slice-aggregate-step-depth c = sym (c .before .before .loop .inv .size)
 
 step-depth-requires : tie.Need-step-depth-requires Inv-loop μ-loop
-step-depth-requires c κs = (c .before .before .before .before .before .pre .0, (deep-step (c .before .before .before .before .before .pre .0) _ (c .before .before .before .before .before .pre .1) (c .before .before .before .before .first-step .ensures) (c .before .before .before .steps .ensures) (c .before .before .loop .inv) (c .before .loop-test .taken), c .before .before .loop .inv .shallow))
+step-depth-requires c κs =
+    let at-loop = c .before .before in
+    let at-steps = at-loop .before in
+    let at-first-step = at-steps .before in
+    let at-start = at-first-step .before in (
+      at-start .pre .0,
+      (
+        deep-step (at-start .pre .0) _ (at-start .pre .1) (at-first-step .first-step .ensures) (at-steps .steps .ensures) (at-loop .loop .inv)
+            (c .before .loop-test .taken),
+        at-loop .loop .inv .shallow,
+      ),
+    )
 
 mul-depths : tie.Need-mul-depths Inv-loop μ-loop
-mul-depths c = omega (arith, deep-step (c .before .before .before .before .before .before .pre .0) _ (c .before .before .before .before .before .before .pre .1) (c .before .before .before .before .before .first-step .ensures) (c .before .before .before .before .steps .ensures) (c .before .before .before .loop .inv) (c .before .before .loop-test .taken), c .before .before .before .before .before .before .pre .0 .sized .limits .steps)
+mul-depths c =
+    let at-loop-test = c .before .before in
+    let at-loop = at-loop-test .before in
+    let at-steps = at-loop .before in
+    let at-first-step = at-steps .before in
+    let at-start = at-first-step .before in
+    omega (
+      arith,
+      deep-step (at-start .pre .0) _ (at-start .pre .1) (at-first-step .first-step .ensures) (at-steps .steps .ensures) (at-loop .loop .inv)
+          (at-loop-test .loop-test .taken),
+      at-start .pre .0 .sized .limits .steps,
+    )
 
 array-write-depths : tie.Need-array-write-depths Inv-loop μ-loop
-array-write-depths c = omega (arith, deep-step (c .before .before .before .before .before .before .pre .0) _ (c .before .before .before .before .before .before .pre .1) (c .before .before .before .before .before .first-step .ensures) (c .before .before .before .before .steps .ensures) (c .before .before .before .loop .inv) (c .before .before .loop-test .taken), c .before .before .before .before .before .before .pre .0 .sized .limits .steps)
+array-write-depths c =
+    let at-loop-test = c .before .before in
+    let at-loop = at-loop-test .before in
+    let at-steps = at-loop .before in
+    let at-first-step = at-steps .before in
+    let at-start = at-first-step .before in
+    omega (
+      arith,
+      deep-step (at-start .pre .0) _ (at-start .pre .1) (at-first-step .first-step .ensures) (at-steps .steps .ensures) (at-loop .loop .inv)
+          (at-loop-test .loop-test .taken),
+      at-start .pre .0 .sized .limits .steps,
+    )
 
 loop-less : tie.Need-loop-less Inv-loop μ-loop
 loop-less c = omega (arith, c .before .before .loop-test .taken)
 
 loop-again : tie.Need-loop-again Inv-loop μ-loop
-loop-again c = deep-more (c .before .before .before .before .before .before .pre .0) _ (c .before .before .before .before .before .before .pre .1) (c .before .before .before .before .before .first-step .ensures) (c .before .before .before .before .steps .ensures) (c .before .before .before .loop .inv) (c .before .before .loop-test .taken) (c .step-depth .ensures)
+loop-again c =
+    let at-loop-test = c .before .before in
+    let at-loop = at-loop-test .before in
+    let at-steps = at-loop .before in
+    let at-first-step = at-steps .before in
+    let at-start = at-first-step .before in
+    deep-more (at-start .pre .0) _ (at-start .pre .1) (at-first-step .first-step .ensures) (at-steps .steps .ensures) (at-loop .loop .inv)
+    (at-loop-test .loop-test .taken) (c .step-depth .ensures)
 
 mul-result : tie.Need-mul-result Inv-loop μ-loop
-mul-result c = omega (arith, deep-first (c .before .before .before .before .pre .0) _ (c .before .before .before .before .pre .1) (c .before .before .before .first-step .ensures) (c .before .before .steps .ensures))
+mul-result c =
+    let at-steps = c .before .before in
+    let at-first-step = at-steps .before in
+    let at-start = at-first-step .before in
+    omega (arith, deep-first (at-start .pre .0) _ (at-start .pre .1) (at-first-step .first-step .ensures) (at-steps .steps .ensures))
 
 array-read-result : tie.Need-array-read-result Inv-loop μ-loop
-array-read-result c = deep-first (c .before .before .before .before .pre .0) _ (c .before .before .before .before .pre .1) (c .before .before .before .first-step .ensures) (c .before .before .steps .ensures)
+array-read-result c =
+    let at-steps = c .before .before in
+    let at-first-step = at-steps .before in
+    let at-start = at-first-step .before in
+    deep-first (at-start .pre .0) _ (at-start .pre .1) (at-first-step .first-step .ensures) (at-steps .steps .ensures)
 
 returns : tie.Need-returns Inv-loop μ-loop
-returns c = deep-done (c .before .before .before .before .pre .0) _ (c .before .before .before .before .pre .1) (c .before .before .before .first-step .ensures) (c .before .before .steps .ensures) (c .before .loop .inv) (c .loop-test .left)
+returns c =
+    let at-steps = c .before .before in
+    let at-first-step = at-steps .before in
+    let at-start = at-first-step .before in
+    deep-done (at-start .pre .0) _ (at-start .pre .1) (at-first-step .first-step .ensures) (at-steps .steps .ensures) (c .before .loop .inv)
+    (c .loop-test .left)
 
 pub longest-spec : {M : Type 1} → statement M
 longest-spec =

@@ -1,4 +1,5 @@
--- `listing::next` meets its contract: by what `seek` found, a refusal that leaves the buffer as it was, or the turn and first routes from there. Assumes nothing.
+-- `listing::next` meets its contract: by what `seek` found, a refusal that leaves the buffer as it was, or the turn and first routes from there.
+-- Assumes nothing.
 use Rattle.listing.proofs.CallLaws.{next-nowhere, next-last, turn-room, turn-route, turn-going, next-done}
 use lib.ListN.{length-set}
 use mathlib.Core.Path.{refl, _∙_}
@@ -20,31 +21,63 @@ enum-known-w : tie.Need-enum-known-w
 enum-known-w c = search needs
 
 mul-route : tie.Need-mul-route
-mul-route c = omega (arith, turn-room (c .before .before .before .seek .ensures) (c .before .w .given .1))
+mul-route c =
+    let at-seek = c .before .before .before in
+    omega (arith, turn-room (at-seek .seek .ensures) (c .before .w .given .1))
 
 slice-read-route : tie.Need-slice-read-route
-slice-read-route c = turn-room (c .before .before .before .before .seek .ensures) (c .before .before .w .given .1)
+slice-read-route c =
+    let at-w = c .before .before in
+    let at-seek = at-w .before .before in
+    turn-room (at-seek .seek .ensures) (at-w .w .given .1)
 
 cast-route : tie.Need-cast-route
-cast-route c = omega (arith, turn-route (c .before .before .before .before .seek .ensures) (c .before .before .w .given .1), c .before .before .before .before .before .before .before .pre .sheet .sized .limits .routes)
+cast-route c =
+    let at-w = c .before .before in
+    let at-seek = at-w .before .before in
+    let at-start = at-seek .before .before .before in
+    omega (arith, turn-route (at-seek .seek .ensures) (at-w .w .given .1), at-start .pre .sheet .sized .limits .routes)
 
 add-route : tie.Need-add-route
-add-route c = omega (arith, turn-route (c .before .before .before .before .seek .ensures) (c .before .before .w .given .1), c .before .before .before .before .before .before .before .pre .sheet .sized .limits .routes)
+add-route c =
+    let at-w = c .before .before in
+    let at-seek = at-w .before .before in
+    let at-start = at-seek .before .before .before in
+    omega (arith, turn-route (at-seek .seek .ensures) (at-w .w .given .1), at-start .pre .sheet .sized .limits .routes)
 
 cast-path : tie.Need-cast-path
-cast-path c = omega (arith, turn-route (c .before .before .before .before .seek .ensures) (c .before .before .w .given .1), c .before .before .before .before .before .before .before .pre .sheet .sized .limits .routes)
+cast-path c =
+    let at-w = c .before .before in
+    let at-seek = at-w .before .before in
+    let at-start = at-seek .before .before .before in
+    omega (arith, turn-route (at-seek .seek .ensures) (at-w .w .given .1), at-start .pre .sheet .sized .limits .routes)
 
 mul-path : tie.Need-mul-path
-mul-path c = omega (arith, turn-room (c .before .before .before .before .seek .ensures) (c .before .before .w .given .1))
+mul-path c =
+    let at-w = c .before .before in
+    let at-seek = at-w .before .before in
+    omega (arith, turn-room (at-seek .seek .ensures) (at-w .w .given .1))
 
 slice-write-path : tie.Need-slice-write-path
-slice-write-path c = turn-room (c .before .before .before .before .seek .ensures) (c .before .before .w .given .1)
+slice-write-path c =
+    let at-w = c .before .before in
+    let at-seek = at-w .before .before in
+    turn-room (at-seek .seek .ensures) (at-w .w .given .1)
 
 take-requires : tie.Need-take-requires
-take-requires c κs = (c .before .before .before .before .before .before .before .pre .sheet .sized, (omega (arith, turn-route (c .before .before .before .before .seek .ensures) (c .before .before .w .given .1)), omega (arith, turn-room (c .before .before .before .before .seek .ensures) (c .before .before .w .given .1))))
+take-requires c κs =
+    let at-w = c .before .before in
+    let at-seek = at-w .before .before in
+    let at-start = at-seek .before .before .before in (
+      at-start .pre .sheet .sized,
+      (omega (arith, turn-route (at-seek .seek .ensures) (at-w .w .given .1)), omega (arith, turn-room (at-seek .seek .ensures) (at-w .w .given .1))),
+    )
 
 finish-requires : tie.Need-finish-requires
-finish-requires c κs = turn-going (c .before .before .before .before .before .before .seek .ensures) (c .before .before .before .before .w .given .1) (c .before .take .ensures)
+finish-requires c κs =
+    let at-w = c .before .before .before .before in
+    let at-seek = at-w .before .before in
+    turn-going (at-seek .seek .ensures) (at-w .w .given .1) (c .before .take .ensures)
 
 same-length : tie.Need-same-length
 same-length c = refl
@@ -62,7 +95,12 @@ same-length-3 : tie.Need-same-length-3
 same-length-3 c = c .before .before .finish .kept .1 .1 .1 .0 ∙ simp length-set
 
 returns-3 : tie.Need-returns-3
-returns-3 c = next-done (c .before .before .before .before .before .before .before .before .before .seek .ensures) (c .before .before .before .before .before .before .before .w .given .1) (c .before .before .before .before .take .ensures) (c .before .before .finish .ensures .0) (c .before .before .finish .ensures .1)
+returns-3 c =
+    let at-finish = c .before .before in
+    let at-take = at-finish .before .before in
+    let at-w = at-take .before .before .before in
+    let at-seek = at-w .before .before in
+    next-done (at-seek .seek .ensures) (at-w .w .given .1) (at-take .take .ensures) (at-finish .finish .ensures .0) (at-finish .finish .ensures .1)
 
 pub next-spec : {M : Type 1} → statement M
 next-spec =

@@ -24,40 +24,117 @@ mul-route : tie.Need-mul-route Inv-loop μ-loop
 mul-route c = omega (arith, seek-room (c .before .before .loop .inv) (c .if1 .taken))
 
 shared-slice-read-route : tie.Need-shared-slice-read-route Inv-loop μ-loop
-shared-slice-read-route c = seek-room (c .before .before .before .loop .inv) (c .before .if1 .taken)
+shared-slice-read-route c =
+    let at-loop = c .before .before .before in
+    seek-room (at-loop .loop .inv) (c .before .if1 .taken)
 
 cast-route : tie.Need-cast-route Inv-loop μ-loop
-cast-route c = omega (arith, c .shared-slice-known2 .given (c .before .before .before .loop .w .length))
+cast-route c =
+    let at-loop = c .before .before .before in
+    omega (arith, c .shared-slice-known2 .given (at-loop .loop .w .length))
 
 first-route-requires : tie.Need-first-route-requires Inv-loop μ-loop
-first-route-requires c κs = (c .before .before .before .before .before .before .pre .sheet .sized, seek-step (c .before .before .before .loop .inv) (c .before .if1 .taken))
+first-route-requires c κs =
+    let at-loop = c .before .before .before in
+    let at-entry = at-loop .before .before .before in
+    (at-entry .pre .sheet .sized, seek-step (at-loop .loop .inv) (c .before .if1 .taken))
 
 routes-requires : tie.Need-routes-requires Inv-loop μ-loop
-routes-requires c κs = (c .before .before .before .before .before .before .before .pre .sheet .sized, seek-step (c .before .before .before .before .loop .inv) (c .before .before .if1 .taken))
+routes-requires c κs =
+    let at-if1 = c .before .before in
+    let at-loop = at-if1 .before .before in
+    let at-entry = at-loop .before .before .before in
+    (at-entry .pre .sheet .sized, seek-step (at-loop .loop .inv) (at-if1 .if1 .taken))
 
 add-end : tie.Need-add-end Inv-loop μ-loop
-add-end c = omega (arith, seek-sum (c .before .before .before .before .before .loop .inv) (c .before .before .before .if1 .taken) (c .before .first-route .ensures) (c .routes .ensures), c .before .before .before .before .before .before .before .before .pre .sheet .sized .limits .routes)
+add-end c =
+    let at-if1 = c .before .before .before in
+    let at-loop = at-if1 .before .before in
+    let at-entry = at-loop .before .before .before in
+    omega (
+      arith,
+      seek-sum (at-loop .loop .inv) (at-if1 .if1 .taken) (c .before .first-route .ensures) (c .routes .ensures),
+      at-entry .pre .sheet .sized .limits .routes,
+    )
 
 returns : tie.Need-returns Inv-loop μ-loop
-returns c = sought (c .before .before .before .before .before .before .before .before .before .pre) (c .before .before .before .before .before .before .before .start .ensures) (seek-nowhere (c .before .before .before .before .before .before .loop .inv) (c .before .before .before .before .if1 .taken) (c .before .before .first-route .ensures) (c .before .routes .ensures) (inl (c .if2 .taken))) tt
+returns c =
+    let at-first-route = c .before .before in
+    let at-if1 = at-first-route .before .before in
+    let at-loop = at-if1 .before .before in
+    let at-start = at-loop .before in
+    let at-entry = at-start .before .before in
+    sought (at-entry .pre) (at-start .start .ensures)
+    (seek-nowhere (at-loop .loop .inv) (at-if1 .if1 .taken) (at-first-route .first-route .ensures) (c .before .routes .ensures) (inl (c .if2 .taken)))
+    tt
 
 returns-2 : tie.Need-returns-2 Inv-loop μ-loop
-returns-2 c = sought (c .before .before .before .before .before .before .before .before .before .before .pre) (c .before .before .before .before .before .before .before .before .start .ensures) (seek-nowhere (c .before .before .before .before .before .before .before .loop .inv) (c .before .before .before .before .before .if1 .taken) (c .before .before .before .first-route .ensures) (c .before .before .routes .ensures) (inr (c .if3 .taken))) tt
+returns-2 c =
+    let at-routes = c .before .before in
+    let at-first-route = at-routes .before in
+    let at-if1 = at-first-route .before .before in
+    let at-loop = at-if1 .before .before in
+    let at-start = at-loop .before in
+    let at-entry = at-start .before .before in
+    sought (at-entry .pre) (at-start .start .ensures)
+    (seek-nowhere (at-loop .loop .inv) (at-if1 .if1 .taken) (at-first-route .first-route .ensures) (at-routes .routes .ensures) (inr (c .if3 .taken)))
+    tt
 
 add-if4 : tie.Need-add-if4 Inv-loop μ-loop
-add-if4 c = omega (arith, seek-sum (c .before .before .before .before .before .before .before .loop .inv) (c .before .before .before .before .before .if1 .taken) (c .before .before .before .first-route .ensures) (c .before .before .routes .ensures), c .before .before .before .before .before .before .before .before .before .before .pre .sheet .sized .limits .routes)
+add-if4 c =
+    let at-routes = c .before .before in
+    let at-first-route = at-routes .before in
+    let at-if1 = at-first-route .before .before in
+    let at-loop = at-if1 .before .before in
+    let at-entry = at-loop .before .before .before in
+    omega (
+      arith,
+      seek-sum (at-loop .loop .inv) (at-if1 .if1 .taken) (at-first-route .first-route .ensures) (at-routes .routes .ensures),
+      at-entry .pre .sheet .sized .limits .routes,
+    )
 
 take-requires : tie.Need-take-requires Inv-loop μ-loop
-take-requires c κs = (c .before .before .before .before .before .before .before .before .before .before .before .pre .sheet .sized, (omega (arith, seek-sum (c .before .before .before .before .before .before .before .before .loop .inv) (c .before .before .before .before .before .before .if1 .taken) (c .before .before .before .before .first-route .ensures) (c .before .before .before .routes .ensures)), omega (arith, seek-room (c .before .before .before .before .before .before .before .before .loop .inv) (c .before .before .before .before .before .before .if1 .taken))))
+take-requires c κs =
+    let at-routes = c .before .before .before in
+    let at-first-route = at-routes .before in
+    let at-if1 = at-first-route .before .before in
+    let at-loop = at-if1 .before .before in
+    let at-entry = at-loop .before .before .before in (
+      at-entry .pre .sheet .sized,
+      (
+        omega (arith, seek-sum (at-loop .loop .inv) (at-if1 .if1 .taken) (at-first-route .first-route .ensures) (at-routes .routes .ensures)),
+        omega (arith, seek-room (at-loop .loop .inv) (at-if1 .if1 .taken)),
+      ),
+    )
 
 loop-less : tie.Need-loop-less Inv-loop μ-loop
-loop-less c = seek-less (c .before .before .before .before .before .before .before .before .before .loop .inv) (c .before .before .before .before .before .before .before .if1 .taken) (c .before .before .before .before .before .first-route .ensures) (c .before .before .before .before .routes .ensures) (c .before .before .before .if2 .left) (c .before .before .if3 .left) (c .take .ensures)
+loop-less c =
+    let at-if3 = c .before .before in
+    let at-if2 = at-if3 .before in
+    let at-routes = at-if2 .before in
+    let at-first-route = at-routes .before in
+    let at-if1 = at-first-route .before .before in
+    let at-loop = at-if1 .before .before in
+    seek-less (at-loop .loop .inv) (at-if1 .if1 .taken) (at-first-route .first-route .ensures) (at-routes .routes .ensures) (at-if2 .if2 .left)
+    (at-if3 .if3 .left) (c .take .ensures)
 
 loop-again : tie.Need-loop-again Inv-loop μ-loop
-loop-again c = seek-more (c .before .before .before .before .before .before .before .before .before .loop .inv) (c .before .before .before .before .before .before .before .if1 .taken) (c .before .before .before .before .before .first-route .ensures) (c .before .before .before .before .routes .ensures) (c .before .before .before .if2 .left) (c .before .before .if3 .left) (c .take .ensures) (⊎-elim (λ x. inl (x .0 .taken, x .1)) (λ x. inr (x .0 .left, x .1)) (c .before .if4 .came))
+loop-again c =
+    let at-if3 = c .before .before in
+    let at-if2 = at-if3 .before in
+    let at-routes = at-if2 .before in
+    let at-first-route = at-routes .before in
+    let at-if1 = at-first-route .before .before in
+    let at-loop = at-if1 .before .before in
+    seek-more (at-loop .loop .inv) (at-if1 .if1 .taken) (at-first-route .first-route .ensures) (at-routes .routes .ensures) (at-if2 .if2 .left)
+    (at-if3 .if3 .left) (c .take .ensures) (⊎-elim (λ x. inl (x .0 .taken, x .1)) (λ x. inr (x .0 .left, x .1)) (c .before .if4 .came))
 
 returns-3 : tie.Need-returns-3 Inv-loop μ-loop
-returns-3 c = sought (c .before .before .before .before .before .pre) (c .before .before .before .start .ensures) (seek-done (c .before .before .loop .inv) (c .if1 .left)) (c .before .before .loop .inv .can)
+returns-3 c =
+    let at-loop = c .before .before in
+    let at-start = at-loop .before in
+    let at-entry = at-start .before .before in
+    sought (at-entry .pre) (at-start .start .ensures) (seek-done (at-loop .loop .inv) (c .if1 .left)) (at-loop .loop .inv .can)
 
 pub seek-spec : {M : Type 1} → statement M
 seek-spec =

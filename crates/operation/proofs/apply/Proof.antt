@@ -22,7 +22,10 @@ loop-holds : tie.Need-loop-holds Inv-loop μ-loop
 loop-holds c = outset (c .before .pre) _ (c .effects-of .ensures) _
 
 effect-word-requires : tie.Need-effect-word-requires Inv-loop μ-loop
-effect-word-requires c κs = (c .before .before .before .pre .accepted .sized, (exists-in (c .before .before .before .pre) _ (c .before .before .effects-of .ensures) _ (c .loop-test .taken), lit< tt))
+effect-word-requires c κs =
+    let at-effects-of = c .before .before in
+    let at-start = at-effects-of .before in
+    (at-start .pre .accepted .sized, (exists-in (at-start .pre) _ (at-effects-of .effects-of .ensures) _ (c .loop-test .taken), lit< tt))
 
 add-e : tie.Need-add-e Inv-loop μ-loop
 add-e c = search needs
@@ -32,13 +35,27 @@ loop-less c = search needs
 
 loop-again : tie.Need-loop-again Inv-loop μ-loop
 unfolding recordAt
-loop-again c = over _ _ _ _ _ _ _ _ _ (c .before .before .before .loop .inv) (c .before .before .loop-test .taken) (λ z. c .if1 .taken (c .before .effect-word .ensures ∙ z))
+loop-again c =
+    let at-loop-test = c .before .before in
+    let at-loop = at-loop-test .before in
+    over _ _ _ _ _ _ _ _ _ (at-loop .loop .inv) (at-loop-test .loop-test .taken) (λ z. c .if1 .taken (c .before .effect-word .ensures ∙ z))
 
 slice-aggregate-shift : tie.Need-slice-aggregate-shift Inv-loop μ-loop
 slice-aggregate-shift c = search needs
 
 shift-requires : tie.Need-shift-requires Inv-loop μ-loop
-shift-requires c κs = (record { accepted = c .before .before .before .before .before .before .before .pre .accepted; long = c .before .before .before .before .before .loop .inv .long; exists = exists-in (c .before .before .before .before .before .before .before .pre) _ (c .before .before .before .before .before .before .effects-of .ensures) _ (c .before .before .before .before .loop-test .taken) }, c .before .before .before .before .before .loop .inv .flags-long)
+shift-requires c κs =
+    let at-loop-test = c .before .before .before .before in
+    let at-loop = at-loop-test .before in
+    let at-effects-of = at-loop .before in
+    let at-start = at-effects-of .before in (
+      record {
+        accepted = at-start .pre .accepted;
+        long = at-loop .loop .inv .long;
+        exists = exists-in (at-start .pre) _ (at-effects-of .effects-of .ensures) _ (at-loop-test .loop-test .taken);
+      },
+      at-loop .loop .inv .flags-long,
+    )
 
 add-e-2 : tie.Need-add-e-2 Inv-loop μ-loop
 add-e-2 c = search needs
@@ -48,13 +65,25 @@ loop-less-2 c = search needs
 
 loop-again-2 : tie.Need-loop-again-2 Inv-loop μ-loop
 unfolding recordAt
-loop-again-2 c = onward (c .before .before .before .before .before .before .before .before .before .before .pre) _ (c .before .before .before .before .before .before .before .before .before .effects-of .ensures) _ _ _ _ _ _ (c .before .before .before .before .before .before .before .before .loop .inv) (c .before .before .before .before .before .before .before .loop-test .taken) (sym (c .before .before .before .before .before .before .effect-word .ensures) ∙ c .before .before .before .before .before .if1 .left) (c .before .before .shift .ensures)
+loop-again-2 c =
+    let at-shift = c .before .before in
+    let at-if1 = at-shift .before .before .before in
+    let at-effect-word = at-if1 .before in
+    let at-loop-test = at-effect-word .before in
+    let at-loop = at-loop-test .before in
+    let at-effects-of = at-loop .before in
+    let at-start = at-effects-of .before in
+    onward (at-start .pre) _ (at-effects-of .effects-of .ensures) _ _ _ _ _ _ (at-loop .loop .inv) (at-loop-test .loop-test .taken)
+    (sym (at-effect-word .effect-word .ensures) ∙ at-if1 .if1 .left) (at-shift .shift .ensures)
 
 same-length : tie.Need-same-length Inv-loop μ-loop
 same-length c = search needs
 
 returns : tie.Need-returns Inv-loop μ-loop
-returns c = done (c .before .before .before .pre) _ (c .before .before .effects-of .ensures) _ _ _ _ (c .before .loop .inv) (c .loop-test .left)
+returns c =
+    let at-effects-of = c .before .before in
+    let at-start = at-effects-of .before in
+    done (at-start .pre) _ (at-effects-of .effects-of .ensures) _ _ _ _ (c .before .loop .inv) (c .loop-test .left)
 
 pub apply-spec : {M : Type 1} → statement M
 apply-spec =

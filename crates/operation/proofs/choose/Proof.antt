@@ -1,5 +1,18 @@
 -- `operation::choose` meets its contract: the walk passes the outcomes that are not applicable. Assumes nothing.
-use Rattle.operation.proofs.FirstOutcome.{Passed, Checked, unchecked, checked-more, outset, few, another, nothing, reads, ends-early, blocked, found}
+use Rattle.operation.proofs.FirstOutcome.{
+  Passed,
+  Checked,
+  unchecked,
+  checked-more,
+  outset,
+  few,
+  another,
+  nothing,
+  reads,
+  ends-early,
+  blocked,
+  found,
+}
 use mathlib.Core.Path.{refl}
 use Rattle.words.specs.Record.{recordAt}
 use lib.Dec.{lit<}
@@ -31,43 +44,105 @@ slice-aggregate-collect : tie.Need-slice-aggregate-collect Inv-loop μ-loop Inv-
 slice-aggregate-collect c = refl
 
 collect-requires : tie.Need-collect-requires Inv-loop μ-loop Inv-outcomes μ-outcomes
-collect-requires c κs = (c .before .before .before .before .pre, (c .before .before .outcomes .inv .start, clear))
+collect-requires c κs =
+    let at-outcomes = c .before .before in
+    let at-start = at-outcomes .before .before in
+    (at-start .pre, (at-outcomes .outcomes .inv .start, clear))
 
 loop-holds : tie.Need-loop-holds Inv-loop μ-loop Inv-outcomes μ-outcomes
 loop-holds c = unchecked _ _ _ _ _ _ (c .before .collect .ensures .order)
 
 effect-word-requires : tie.Need-effect-word-requires Inv-loop μ-loop Inv-outcomes μ-outcomes
-effect-word-requires c κs = (c .before .before .before .before .before .before .before .before .pre .accepted .sized, (reads (c .before .before .before .before .before .before .before .before .pre) _ _ _ _ (c .before .before .before .before .before .before .outcomes .inv) (c .before .before .before .collect .ensures) _ (c .before .loop .inv .order) (c .loop-test .taken) .exists, lit< tt))
+effect-word-requires c κs =
+    let at-collect = c .before .before .before in
+    let at-outcomes = at-collect .before .before .before in
+    let at-start = at-outcomes .before .before in (
+      at-start .pre .accepted .sized,
+      (
+        reads (at-start .pre) _ _ _ _ (at-outcomes .outcomes .inv) (at-collect .collect .ensures) _ (c .before .loop .inv .order)
+            (c .loop-test .taken) .exists,
+        lit< tt,
+      ),
+    )
 
 array-read-if2 : tie.Need-array-read-if2 Inv-loop μ-loop Inv-outcomes μ-outcomes
 unfolding recordAt
-array-read-if2 c = rw (c .effect-word .ensures) (has-flag (reads (c .before .before .before .before .before .before .before .before .before .pre) _ _ _ _ (c .before .before .before .before .before .before .before .outcomes .inv) (c .before .before .before .before .collect .ensures) _ (c .before .before .loop .inv .order) (c .before .loop-test .taken)))
+array-read-if2 c =
+    let at-loop = c .before .before in
+    let at-collect = at-loop .before .before in
+    let at-outcomes = at-collect .before .before .before in
+    let at-start = at-outcomes .before .before in
+    rw (c .effect-word .ensures) (has-flag (reads (at-start .pre) _ _ _ _ (at-outcomes .outcomes .inv) (at-collect .collect .ensures) _
+    (at-loop .loop .inv .order) (c .before .loop-test .taken)))
 
 add-j : tie.Need-add-j Inv-loop μ-loop Inv-outcomes μ-outcomes
-add-j c = omega (arith, c .before .before .before .loop .inv .same-j, few (c .before .before .before .before .before .before .before .before .before .before .pre) _ _ (c .before .before .before .before .before .before .before .before .outcomes .inv))
+add-j c =
+    let at-loop = c .before .before .before in
+    let at-outcomes = at-loop .before .before .before .before .before in
+    let at-start = at-outcomes .before .before in
+    omega (arith, at-loop .loop .inv .same-j, few (at-start .pre) _ _ (at-outcomes .outcomes .inv))
 
 outcomes-less : tie.Need-outcomes-less Inv-loop μ-loop Inv-outcomes μ-outcomes
-outcomes-less c = omega (arith, c .before .before .before .loop .inv .same-j, outcomes-is _ _ _ _ (c .before .before .before .before .before .before .before .before .before .effects-of .ensures), another (c .before .before .before .before .before .before .before .before .before .before .pre) _ (c .before .before .before .before .before .before .before .before .before .effects-of .ensures) _ _ (c .before .before .before .before .before .before .before .before .outcomes .inv) (c .before .before .before .before .before .before .before .if1 .left))
+outcomes-less c =
+    let at-loop = c .before .before .before in
+    let at-if1 = at-loop .before .before .before .before in
+    let at-outcomes = at-if1 .before in
+    let at-effects-of = at-outcomes .before in
+    let at-start = at-effects-of .before in
+    omega (
+      arith,
+      at-loop .loop .inv .same-j,
+      outcomes-is _ _ _ _ (at-effects-of .effects-of .ensures),
+      another (at-start .pre) _ (at-effects-of .effects-of .ensures) _ _ (at-outcomes .outcomes .inv) (at-if1 .if1 .left),
+    )
 
 outcomes-again : tie.Need-outcomes-again Inv-loop μ-loop Inv-outcomes μ-outcomes
 unfolding recordAt
-outcomes-again c = blocked (c .before .before .before .before .before .before .before .before .before .before .pre) _ _ _ _ (c .before .before .before .before .before .before .before .before .outcomes .inv) (c .before .before .before .before .before .collect .ensures) _ _ _ _ (c .before .before .before .loop .inv) (c .before .before .loop-test .taken) (another (c .before .before .before .before .before .before .before .before .before .before .pre) _ (c .before .before .before .before .before .before .before .before .before .effects-of .ensures) _ _ (c .before .before .before .before .before .before .before .before .outcomes .inv) (c .before .before .before .before .before .before .before .if1 .left)) (c .before .effect-word .ensures) (c .if2 .taken)
+outcomes-again c =
+    let at-loop-test = c .before .before in
+    let at-loop = at-loop-test .before in
+    let at-collect = at-loop .before .before in
+    let at-if1 = at-collect .before .before in
+    let at-outcomes = at-if1 .before in
+    let at-effects-of = at-outcomes .before in
+    let at-start = at-effects-of .before in
+    blocked (at-start .pre) _ _ _ _ (at-outcomes .outcomes .inv) (at-collect .collect .ensures) _ _ _ _ (at-loop .loop .inv)
+    (at-loop-test .loop-test .taken)
+    (another (at-start .pre) _ (at-effects-of .effects-of .ensures) _ _ (at-outcomes .outcomes .inv) (at-if1 .if1 .left))
+    (c .before .effect-word .ensures) (c .if2 .taken)
 
 add-d : tie.Need-add-d Inv-loop μ-loop Inv-outcomes μ-outcomes
-add-d c = omega (arith, ends-early (c .before .before .before .before .before .before .before .before .before .before .pre) _ _ _ _ (c .before .before .before .before .before .before .before .before .outcomes .inv) (c .before .before .before .before .before .collect .ensures))
+add-d c =
+    let at-collect = c .before .before .before .before .before in
+    let at-outcomes = at-collect .before .before .before in
+    let at-start = at-outcomes .before .before in
+    omega (arith, ends-early (at-start .pre) _ _ _ _ (at-outcomes .outcomes .inv) (at-collect .collect .ensures))
 
 loop-less : tie.Need-loop-less Inv-loop μ-loop Inv-outcomes μ-outcomes
 loop-less c = omega arith
 
 loop-again : tie.Need-loop-again Inv-loop μ-loop Inv-outcomes μ-outcomes
 unfolding recordAt
-loop-again c = checked-more _ _ _ _ _ _ _ _ _ _ (c .before .before .before .loop .inv) (c .before .before .loop-test .taken) (c .before .effect-word .ensures) (c .if2 .left)
+loop-again c =
+    let at-loop-test = c .before .before in
+    let at-loop = at-loop-test .before in
+    checked-more _ _ _ _ _ _ _ _ _ _ (at-loop .loop .inv) (at-loop-test .loop-test .taken) (c .before .effect-word .ensures) (c .if2 .left)
 
 returns : tie.Need-returns Inv-loop μ-loop Inv-outcomes μ-outcomes
-returns c = nothing (c .before .before .before .pre) _ (c .before .before .effects-of .ensures) _ _ (c .before .outcomes .inv) (c .if1 .taken)
+returns c =
+    let at-effects-of = c .before .before in
+    let at-start = at-effects-of .before in
+    nothing (at-start .pre) _ (at-effects-of .effects-of .ensures) _ _ (c .before .outcomes .inv) (c .if1 .taken)
 
 returns-2 : tie.Need-returns-2 Inv-loop μ-loop Inv-outcomes μ-outcomes
-returns-2 c = found (c .before .before .before .before .before .before .before .before .pre) _ _ _ _ (c .before .before .before .before .before .before .outcomes .inv) (c .before .before .before .collect .ensures) _ _ _ (c .before .loop .inv) (c .loop-test .left) (another (c .before .before .before .before .before .before .before .before .pre) _ (c .before .before .before .before .before .before .before .effects-of .ensures) _ _ (c .before .before .before .before .before .before .outcomes .inv) (c .before .before .before .before .before .if1 .left))
+returns-2 c =
+    let at-collect = c .before .before .before in
+    let at-if1 = at-collect .before .before in
+    let at-outcomes = at-if1 .before in
+    let at-effects-of = at-outcomes .before in
+    let at-start = at-effects-of .before in
+    found (at-start .pre) _ _ _ _ (at-outcomes .outcomes .inv) (at-collect .collect .ensures) _ _ _ (c .before .loop .inv) (c .loop-test .left)
+    (another (at-start .pre) _ (at-effects-of .effects-of .ensures) _ _ (at-outcomes .outcomes .inv) (at-if1 .if1 .left))
 
 pub choose-spec : {M : Type 1} → statement M
 choose-spec =

@@ -20,31 +20,69 @@ effects-of-requires : tie.Need-effects-of-requires Inv-loop μ-loop
 effects-of-requires c κs = (c .before .pre .0 .accepted, c .before .pre .0 .exists)
 
 loop-holds : tie.Need-loop-holds Inv-loop μ-loop
-loop-holds c = none _ _ _ _ _ _ _ (rw (end-is _ _ _ _ (c .effects-of .ensures)) (c .before .before .pre .1 .0 .high)) (c .before .before .pre .1 .1)
+loop-holds c =
+    let at-start = c .before .before in
+    none _ _ _ _ _ _ _ (rw (end-is _ _ _ _ (c .effects-of .ensures)) (at-start .pre .1 .0 .high)) (at-start .pre .1 .1)
 
 effect-word-requires : tie.Need-effect-word-requires Inv-loop μ-loop
-effect-word-requires c κs = (c .before .before .before .before .pre .0 .accepted .sized, (read-in (c .before .before .before .before .pre .0) _ (c .before .before .effects-of .ensures) _ (c .loop-test .taken) .exists, lit< tt))
+effect-word-requires c κs =
+    let at-effects-of = c .before .before in
+    let at-start = at-effects-of .before .before in
+    (at-start .pre .0 .accepted .sized, (read-in (at-start .pre .0) _ (at-effects-of .effects-of .ensures) _ (c .loop-test .taken) .exists, lit< tt))
 
 same-length : tie.Need-same-length Inv-loop μ-loop
 same-length c = search needs
 
 returns : tie.Need-returns Inv-loop μ-loop
 unfolding recordAt
-returns c = collected-by (c .before .before .before .before .before .before .pre .0) _ (c .before .before .before .before .effects-of .ensures) _ _ _ _ (c .before .before .before .before .before .before .pre .1 .0) (c .before .before .before .loop .inv) (λ l z. c .if1 .taken (c .before .effect-word .ensures ∙ z))
+returns c =
+    let at-loop = c .before .before .before in
+    let at-effects-of = at-loop .before in
+    let at-start = at-effects-of .before .before in
+    collected-by (at-start .pre .0) _ (at-effects-of .effects-of .ensures) _ _ _ _ (at-start .pre .1 .0) (at-loop .loop .inv)
+    (λ l z. c .if1 .taken (c .before .effect-word .ensures ∙ z))
 
 starts-requires : tie.Need-starts-requires Inv-loop μ-loop
-starts-requires c κs = read-in (c .before .before .before .before .before .before .pre .0) _ (c .before .before .before .before .effects-of .ensures) _ (c .before .before .loop-test .taken)
+starts-requires c κs =
+    let at-loop-test = c .before .before in
+    let at-effects-of = at-loop-test .before .before in
+    let at-start = at-effects-of .before .before in
+    read-in (at-start .pre .0) _ (at-effects-of .effects-of .ensures) _ (at-loop-test .loop-test .taken)
 
 effect-word-requires-2 : tie.Need-effect-word-requires-2 Inv-loop μ-loop
-effect-word-requires-2 c κs = (c .before .before .before .before .before .before .before .pre .0 .accepted .sized, (read-in (c .before .before .before .before .before .before .before .pre .0) _ (c .before .before .before .before .before .effects-of .ensures) _ (c .before .before .before .loop-test .taken) .exists, lit< tt))
+effect-word-requires-2 c κs =
+    let at-loop-test = c .before .before .before in
+    let at-effects-of = at-loop-test .before .before in
+    let at-start = at-effects-of .before .before in (
+      at-start .pre .0 .accepted .sized,
+      (read-in (at-start .pre .0) _ (at-effects-of .effects-of .ensures) _ (at-loop-test .loop-test .taken) .exists, lit< tt),
+    )
 
 slice-read-found : tie.Need-slice-read-found Inv-loop μ-loop
 unfolding recordAt
-slice-read-found c = rw (c .before .effect-word2 .ensures) (omega (arith, has-flag (read-in (c .before .before .before .before .before .before .before .before .before .pre .0) _ (c .before .before .before .before .before .before .before .effects-of .ensures) _ (c .before .before .before .before .before .loop-test .taken)), c .before .before .before .before .before .before .loop .inv .long))
+slice-read-found c =
+    let at-loop-test = c .before .before .before .before .before in
+    let at-loop = at-loop-test .before in
+    let at-effects-of = at-loop .before in
+    let at-start = at-effects-of .before .before in
+    rw (c .before .effect-word2 .ensures) (omega (
+      arith,
+      has-flag (read-in (at-start .pre .0) _ (at-effects-of .effects-of .ensures) _ (at-loop-test .loop-test .taken)),
+      at-loop .loop .inv .long,
+    ))
 
 slice-write-found : tie.Need-slice-write-found Inv-loop μ-loop
 unfolding recordAt
-slice-write-found c = rw (c .before .effect-word2 .ensures) (omega (arith, has-flag (read-in (c .before .before .before .before .before .before .before .before .before .pre .0) _ (c .before .before .before .before .before .before .before .effects-of .ensures) _ (c .before .before .before .before .before .loop-test .taken)), c .before .before .before .before .before .before .loop .inv .long))
+slice-write-found c =
+    let at-loop-test = c .before .before .before .before .before in
+    let at-loop = at-loop-test .before in
+    let at-effects-of = at-loop .before in
+    let at-start = at-effects-of .before .before in
+    rw (c .before .effect-word2 .ensures) (omega (
+      arith,
+      has-flag (read-in (at-start .pre .0) _ (at-effects-of .effects-of .ensures) _ (at-loop-test .loop-test .taken)),
+      at-loop .loop .inv .long,
+    ))
 
 add-e : tie.Need-add-e Inv-loop μ-loop
 add-e c = search needs
@@ -54,13 +92,24 @@ loop-less c = search needs
 
 loop-again : tie.Need-loop-again Inv-loop μ-loop
 unfolding recordAt
-loop-again c = more _ _ _ _ _ _ _ _ _ _ _ (c .before .before .before .before .before .before .loop .inv) (c .before .before .before .before .before .loop-test .taken) (sym (c .before .before .before .before .effect-word .ensures) ∙ c .before .before .before .if1 .left) (c .before .before .starts .ensures) (c .before .effect-word2 .ensures) refl
+loop-again c =
+    let at-starts = c .before .before in
+    let at-if1 = at-starts .before in
+    let at-effect-word = at-if1 .before in
+    let at-loop-test = at-effect-word .before in
+    let at-loop = at-loop-test .before in
+    more _ _ _ _ _ _ _ _ _ _ _ (at-loop .loop .inv) (at-loop-test .loop-test .taken) (sym (at-effect-word .effect-word .ensures) ∙ at-if1 .if1 .left)
+    (at-starts .starts .ensures) (c .before .effect-word2 .ensures) refl
 
 same-length-2 : tie.Need-same-length-2 Inv-loop μ-loop
 same-length-2 c = search needs
 
 returns-2 : tie.Need-returns-2 Inv-loop μ-loop
-returns-2 c = collected-by (c .before .before .before .before .pre .0) _ (c .before .before .effects-of .ensures) _ _ _ _ (c .before .before .before .before .pre .1 .0) (c .before .loop .inv) (λ l z. absurd (omega arith))
+returns-2 c =
+    let at-effects-of = c .before .before in
+    let at-start = at-effects-of .before .before in
+    collected-by (at-start .pre .0) _ (at-effects-of .effects-of .ensures) _ _ _ _ (at-start .pre .1 .0) (c .before .loop .inv)
+    (λ l z. absurd (omega arith))
 
 pub collect-spec : {M : Type 1} → statement M
 collect-spec =

@@ -15,14 +15,19 @@ operation-word-requires-2 c κs = search needs
 
 add-t6 : tie.Need-add-t6
 unfolding recordAt
-add-t6 c = rw (c .before .operation-word .ensures, c .operation-word2 .ensures) (omega (arith, operation-ok (c .before .before .pre .0) _ (c .before .before .pre .1) .end, c .before .before .pre .0 .sized .limits))
+add-t6 c =
+    let at-start = c .before .before in
+    rw (c .before .operation-word .ensures, c .operation-word2 .ensures)
+    (omega (arith, operation-ok (at-start .pre .0) _ (at-start .pre .1) .end, at-start .pre .0 .sized .limits))
 
 operation-word-requires-3 : tie.Need-operation-word-requires-3
 operation-word-requires-3 c κs = search needs
 
 returns : tie.Need-returns
 unfolding effectsOf recordAt
-returns c = rw (c .before .before .operation-word .ensures, c .before .operation-word2 .ensures, c .operation-word3 .ensures)
+returns c =
+    let at-operation-word = c .before .before in
+    rw (at-operation-word .operation-word .ensures, c .before .operation-word2 .ensures, c .operation-word3 .ensures)
 
 pub effects-of-spec : {M : Type 1} → statement M
 effects-of-spec =

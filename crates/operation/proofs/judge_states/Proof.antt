@@ -32,7 +32,12 @@ number-at-requires c κs = search needs
 
 returns : tie.Need-returns Inv-loop μ-loop
 unfolding recordAt
-returns c = stray _ _ _ (c .before .before .before .before .before .loop .n) (c .before .before .before .before .before .loop .inv) (c .before .before .before .if1 .taken) (rw (← c .before .before .number .ensures, ← c .before .number-at .ensures) (c .if2 .taken))
+returns c =
+    let at-number = c .before .before in
+    let at-if1 = at-number .before in
+    let at-loop = at-if1 .before .before in
+    stray _ _ _ (at-loop .loop .n) (at-loop .loop .inv) (at-if1 .if1 .taken)
+    (rw (← at-number .number .ensures, ← c .before .number-at .ensures) (c .if2 .taken))
 
 add-n : tie.Need-add-n Inv-loop μ-loop
 add-n c = search needs
@@ -42,7 +47,11 @@ loop-less c = search needs
 
 loop-again : tie.Need-loop-again Inv-loop μ-loop
 unfolding recordAt
-loop-again c = more _ _ _ _ (c .before .before .before .before .before .loop .inv) (c .before .before .before .if1 .taken) (rw (← c .before .before .number .ensures, ← c .before .number-at .ensures) (c .if2 .left))
+loop-again c =
+    let at-number = c .before .before in
+    let at-if1 = at-number .before in
+    let at-loop = at-if1 .before .before in
+    more _ _ _ _ (at-loop .loop .inv) (at-if1 .if1 .taken) (rw (← at-number .number .ensures, ← c .before .number-at .ensures) (c .if2 .left))
 
 returns-2 : tie.Need-returns-2 Inv-loop μ-loop
 returns-2 c = all-in _ _ _ _ (c .before .before .loop .inv) (c .if1 .left)

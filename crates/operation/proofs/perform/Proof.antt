@@ -20,7 +20,10 @@ same-length : tie.Need-same-length
 same-length c = search needs
 
 returns : tie.Need-returns
-returns c = with-outcome _ _ _ _ _ _ _ (c .before .before .before .before .choice .given .1) (c .before .before .before .before .before .before .choose .ensures) (c .before .apply .ensures)
+returns c =
+    let at-choice = c .before .before .before .before in
+    let at-choose = at-choice .before .before in
+    with-outcome _ _ _ _ _ _ _ (at-choice .choice .given .1) (at-choose .choose .ensures) (c .before .apply .ensures)
 
 same-length-2 : tie.Need-same-length-2
 same-length-2 c = search needs

@@ -18,7 +18,9 @@ number-at-requires c κs = rw (c .before .effect-word .ensures) (has-state (c .b
 
 returns : tie.Need-returns
 unfolding starts recordAt
-returns c = rw (c .before .effect-word2 .ensures, c .number-at .ensures, c .before .before .effect-word .ensures)
+returns c =
+    let at-effect-word = c .before .before in
+    rw (c .before .effect-word2 .ensures, c .number-at .ensures, at-effect-word .effect-word .ensures)
 
 pub starts-spec : {M : Type 1} → statement M
 starts-spec =

@@ -18,10 +18,16 @@ same-length : tie.Need-same-length
 same-length c = search needs
 
 returns : tie.Need-returns
-returns c = follow-most (c .before .before .before .before .before .before .before .pre .0) (c .before .before .before .before .before .before .before .pre .1) (c .before .before .before .before .if1 .taken) (c .before .before .enter .ensures)
+returns c =
+    let at-enter = c .before .before in
+    let at-if1 = at-enter .before .before in
+    let at-start = at-if1 .before .before .before in
+    follow-most (at-start .pre .0) (at-start .pre .1) (at-if1 .if1 .taken) (at-enter .enter .ensures)
 
 next-requires : tie.Need-next-requires
-next-requires c κs = ready-lent (c .before .before .before .before .pre .0 .ready) _ (c .before .before .before .before .pre .1)
+next-requires c κs =
+    let at-start = c .before .before .before .before in
+    ready-lent (at-start .pre .0 .ready) _ (at-start .pre .1)
 
 enum-known-terminal : tie.Need-enum-known-terminal
 enum-known-terminal c = search needs
@@ -36,16 +42,28 @@ enter-requires-2 : tie.Need-enter-requires-2
 enter-requires-2 c κs = search needs
 
 same-length-2 : tie.Need-same-length-2
-same-length-2 c = c .before .before .before .before .before .next .kept .1 .1 .1 .0
+same-length-2 c =
+    let at-next = c .before .before .before .before .before in
+    at-next .next .kept .1 .1 .1 .0
 
 returns-2 : tie.Need-returns-2
-returns-2 c = follow-next (c .before .before .before .before .before .before .before .before .before .before .pre .0) (c .before .before .before .before .before .before .before .before .before .before .pre .1) (c .before .before .before .before .before .next .ensures .0) (c .before .before .before .before .before .before .before .if1 .left) (c .before .terminal .given .1) (c .before .before .before .before .before .next .ensures .1) (c .before .before .before .before .before .next .kept .1 .1 .1 .0)
+returns-2 c =
+    let at-next = c .before .before .before .before .before in
+    let at-if1 = at-next .before .before in
+    let at-start = at-if1 .before .before .before in
+    follow-next (at-start .pre .0) (at-start .pre .1) (at-next .next .ensures .0) (at-if1 .if1 .left) (c .before .terminal .given .1)
+    (at-next .next .ensures .1) (at-next .next .kept .1 .1 .1 .0)
 
 same-length-3 : tie.Need-same-length-3
 same-length-3 c = search needs
 
 returns-3 : tie.Need-returns-3
-returns-3 c = follow-last (c .before .before .before .before .before .before .before .before .before .before .before .before .before .pre .0) (c .before .before .before .before .before .before .before .before .before .before .before .before .before .pre .1) (c .before .before .before .before .before .before .before .before .next .ensures .0) (c .before .before .before .before .enum-told .given .1) (c .before .before .enter2 .ensures)
+returns-3 c =
+    let at-enter2 = c .before .before in
+    let at-enum-told = at-enter2 .before .before in
+    let at-next = at-enum-told .before .before .before .before in
+    let at-start = at-next .before .before .before .before .before in
+    follow-last (at-start .pre .0) (at-start .pre .1) (at-next .next .ensures .0) (at-enum-told .enum-told .given .1) (at-enter2 .enter2 .ensures)
 
 pub advance-spec : {M : Type 1} → statement M
 advance-spec =

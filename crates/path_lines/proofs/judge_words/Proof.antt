@@ -14,10 +14,14 @@ enum-known-r : tie.Need-enum-known-r
 enum-known-r c = search needs
 
 returns : tie.Need-returns
-returns c = judged-good _ _ (c .before .before .before .open-sheet .ensures) (c .before .h .given .1)
+returns c =
+    let at-open-sheet = c .before .before .before in
+    judged-good _ _ (at-open-sheet .open-sheet .ensures) (c .before .h .given .1)
 
 returns-2 : tie.Need-returns-2
-returns-2 c = judged-bad _ _ (c .before .before .before .open-sheet .ensures) (c .before .r .given .1)
+returns-2 c =
+    let at-open-sheet = c .before .before .before in
+    judged-bad _ _ (at-open-sheet .open-sheet .ensures) (c .before .r .given .1)
 
 pub judge-words-spec : {M : Type 1} → statement M
 judge-words-spec =

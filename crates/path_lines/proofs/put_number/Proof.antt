@@ -12,13 +12,22 @@ ending-requires : tie.Need-ending-requires
 ending-requires c κs = search needs
 
 put-field-requires : tie.Need-put-field-requires
-put-field-requires c κs = rw (back-of (c .before .signed .result) (c .before .signed .ok), c .before .signed .ensures) (has-text _ (c .before .before .before .before .pre .0), number-room _ _ _ _ (c .before .before .before .before .pre .1))
+put-field-requires c κs =
+    let at-start = c .before .before .before .before in
+    rw (back-of (c .before .signed .result) (c .before .signed .ok), c .before .signed .ensures)
+    (has-text _ (at-start .pre .0), number-room _ _ _ _ (at-start .pre .1))
 
 same-length : tie.Need-same-length
 same-length c = search needs
 
 returns : tie.Need-returns
-returns c = number-put _ _ _ _ (c .before .before .before .ending .ensures) (rw (back-of (c .before .before .before .before .signed .result) (c .before .before .before .before .signed .ok), c .before .before .before .before .signed .ensures) at (c .before .before .put-field .ensures .0)) (rw (back-of (c .before .before .before .before .signed .result) (c .before .before .before .before .signed .ok), c .before .before .before .before .signed .ensures) at (c .before .before .put-field .ensures .1))
+returns c =
+    let at-put-field = c .before .before in
+    let at-ending = at-put-field .before in
+    let at-signed = at-ending .before in
+    number-put _ _ _ _ (at-ending .ending .ensures)
+    (rw (back-of (at-signed .signed .result) (at-signed .signed .ok), at-signed .signed .ensures) at (at-put-field .put-field .ensures .0))
+    (rw (back-of (at-signed .signed .result) (at-signed .signed .ok), at-signed .signed .ensures) at (at-put-field .put-field .ensures .1))
 
 pub put-number-spec : {M : Type 1} → statement M
 put-number-spec =

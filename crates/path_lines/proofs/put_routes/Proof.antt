@@ -30,7 +30,13 @@ add-put-number : tie.Need-add-put-number Inv-loop μ-loop
 add-put-number c = search needs
 
 put-number-requires : tie.Need-put-number-requires Inv-loop μ-loop
-put-number-requires c κs = (omega (arith, c .wide .ensures, c .before .shared-slice-known2 .given (c .before .before .before .before .loop .i)), rw (c .wide .ensures) (route-room _ _ (c .before .before .before .before .before .before .before .pre .0) _ (c .before .before .before .loop-test .taken) (c .before .before .before .before .loop .inv .1)))
+put-number-requires c κs =
+    let at-loop-test = c .before .before .before in
+    let at-loop = at-loop-test .before in
+    let at-start = at-loop .before .before .before in (
+      omega (arith, c .wide .ensures, c .before .shared-slice-known2 .given (at-loop .loop .i)),
+      rw (c .wide .ensures) (route-room _ _ (at-start .pre .0) _ (at-loop-test .loop-test .taken) (at-loop .loop .inv .1)),
+    )
 
 add-i : tie.Need-add-i Inv-loop μ-loop
 add-i c = search needs
@@ -39,13 +45,25 @@ loop-less : tie.Need-loop-less Inv-loop μ-loop
 loop-less c = search needs
 
 loop-again : tie.Need-loop-again Inv-loop μ-loop
-loop-again c = (omega (arith, c .before .before .before .before .before .before .loop-test .taken), route-put _ _ (c .before .before .before .before .before .before .before .before .before .before .pre .0) _ (c .before .before .before .before .before .before .loop-test .taken) (c .before .before .before .before .before .before .before .loop .inv .1) (rw (c .before .before .before .wide .ensures) at (c .before .before .put-number .ensures .0)) (rw (c .before .before .before .wide .ensures) at (c .before .before .put-number .ensures .1)))
+loop-again c =
+    let at-put-number = c .before .before in
+    let at-wide = at-put-number .before in
+    let at-loop-test = at-wide .before .before .before in
+    let at-loop = at-loop-test .before in
+    let at-start = at-loop .before .before .before in (
+      omega (arith, at-loop-test .loop-test .taken),
+      route-put _ _ (at-start .pre .0) _ (at-loop-test .loop-test .taken) (at-loop .loop .inv .1)
+          (rw (at-wide .wide .ensures) at (at-put-number .put-number .ensures .0))
+          (rw (at-wide .wide .ensures) at (at-put-number .put-number .ensures .1)),
+    )
 
 same-length : tie.Need-same-length Inv-loop μ-loop
 same-length c = c .before .loop .inv .1 .size
 
 returns : tie.Need-returns Inv-loop μ-loop
-returns c = written-done (c .before .loop .inv .1) (routes-done _ _ (c .before .before .before .before .pre .0) _ (c .loop-test .left))
+returns c =
+    let at-start = c .before .before .before .before in
+    written-done (c .before .loop .inv .1) (routes-done _ _ (at-start .pre .0) _ (c .loop-test .left))
 
 pub put-routes-spec : {M : Type 1} → statement M
 put-routes-spec =

@@ -24,7 +24,10 @@ place-requires : tie.Need-place-requires Inv-loop μ-loop
 place-requires c κs = search needs
 
 add-mask : tie.Need-add-mask Inv-loop μ-loop
-add-mask c = omega (arith, room _ _ _ (c .before .before .before .loop .inv) _ (c .before .before .loop-test .taken) (c .place .ensures))
+add-mask c =
+    let at-loop-test = c .before .before in
+    let at-loop = at-loop-test .before in
+    omega (arith, room _ _ _ (at-loop .loop .inv) _ (at-loop-test .loop-test .taken) (c .place .ensures))
 
 add-q : tie.Need-add-q Inv-loop μ-loop
 add-q c = search needs
@@ -33,7 +36,10 @@ loop-less : tie.Need-loop-less Inv-loop μ-loop
 loop-less c = search needs
 
 loop-again : tie.Need-loop-again Inv-loop μ-loop
-loop-again c = one-bit _ _ _ (c .before .before .before .loop .inv) _ (c .before .before .loop-test .taken) (c .place .ensures)
+loop-again c =
+    let at-loop-test = c .before .before in
+    let at-loop = at-loop-test .before in
+    one-bit _ _ _ (at-loop .loop .inv) _ (at-loop-test .loop-test .taken) (c .place .ensures)
 
 returns : tie.Need-returns Inv-loop μ-loop
 returns c = all-bits _ _ _ (c .before .loop .inv) (c .loop-test .left)

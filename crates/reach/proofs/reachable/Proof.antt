@@ -22,10 +22,18 @@ number-requires : tie.Need-number-requires Inv-loop μ-loop
 number-requires c κs = search needs
 
 array-write-found : tie.Need-array-write-found Inv-loop μ-loop
-array-write-found c = initial-few (c .before .before .before .pre .0) _ (c .before .before .before .pre .1) _ (initial-is (c .before .before .before .pre .0) _ (c .before .before .before .pre .1) _ _ (c .before .before .first-entity .ensures) (c .number .ensures))
+array-write-found c =
+    let at-first-entity = c .before .before in
+    let at-start = at-first-entity .before in
+    initial-few (at-start .pre .0) _ (at-start .pre .1) _
+    (initial-is (at-start .pre .0) _ (at-start .pre .1) _ _ (at-first-entity .first-entity .ensures) (c .number .ensures))
 
 loop-holds : tie.Need-loop-holds Inv-loop μ-loop
-loop-holds c = outset (c .before .before .before .pre .0) _ (c .before .before .before .pre .1) _ (initial-is (c .before .before .before .pre .0) _ (c .before .before .before .pre .1) _ _ (c .before .before .first-entity .ensures) (c .number .ensures))
+loop-holds c =
+    let at-first-entity = c .before .before in
+    let at-start = at-first-entity .before in
+    outset (at-start .pre .0) _ (at-start .pre .1) _
+    (initial-is (at-start .pre .0) _ (at-start .pre .1) _ _ (at-first-entity .first-entity .ensures) (c .number .ensures))
 
 array-write-scanned : tie.Need-array-write-scanned Inv-loop μ-loop
 array-write-scanned c = search needs
@@ -34,7 +42,10 @@ slice-aggregate-scan : tie.Need-slice-aggregate-scan Inv-loop μ-loop
 slice-aggregate-scan c = search needs
 
 scan-requires : tie.Need-scan-requires Inv-loop μ-loop
-scan-requires c κs = (c .before .before .before .before .before .before .pre .0, c .before .before .loop .inv .found-long)
+scan-requires c κs =
+    let at-loop = c .before .before in
+    let at-start = at-loop .before .before .before .before in
+    (at-start .pre .0, at-loop .loop .inv .found-long)
 
 slice-aggregate-next-open : tie.Need-slice-aggregate-next-open Inv-loop μ-loop
 slice-aggregate-next-open c = search needs
@@ -43,13 +54,27 @@ slice-aggregate-next-open-2 : tie.Need-slice-aggregate-next-open-2 Inv-loop μ-l
 slice-aggregate-next-open-2 c = search needs
 
 next-open-requires : tie.Need-next-open-requires Inv-loop μ-loop
-next-open-requires c κs = (c .before .before .before .scan .ensures .long, still-long (c .before .before .before .before .before .before .before .before .before .before .pre .0) _ (c .before .before .before .before .before .before .before .before .before .before .pre .1) _ _ _ (c .before .before .before .before .before .before .loop .inv))
+next-open-requires c κs =
+    let at-scan = c .before .before .before in
+    let at-loop = at-scan .before .before .before in
+    let at-start = at-loop .before .before .before .before in
+    (at-scan .scan .ensures .long, still-long (at-start .pre .0) _ (at-start .pre .1) _ _ _ (at-loop .loop .inv))
 
 loop-less : tie.Need-loop-less Inv-loop μ-loop
-loop-less c = fewer (c .before .before .before .before .before .before .before .before .before .before .before .pre .0) _ (c .before .before .before .before .before .before .before .before .before .before .before .pre .1) _ _ _ (c .before .before .before .before .before .before .before .loop .inv) (c .before .before .before .before .before .before .loop-test .taken)
+loop-less c =
+    let at-loop-test = c .before .before .before .before .before .before in
+    let at-loop = at-loop-test .before in
+    let at-start = at-loop .before .before .before .before in
+    fewer (at-start .pre .0) _ (at-start .pre .1) _ _ _ (at-loop .loop .inv) (at-loop-test .loop-test .taken)
 
 loop-again : tie.Need-loop-again Inv-loop μ-loop
-loop-again c = onward (c .before .before .before .before .before .before .before .before .before .before .before .pre .0) _ (c .before .before .before .before .before .before .before .before .before .before .before .pre .1) _ _ _ (c .before .before .before .before .before .before .before .loop .inv) _ _ (c .before .before .before .before .before .before .loop-test .taken) (c .before .before .before .before .scan .ensures) (c .next-open .ensures)
+loop-again c =
+    let at-scan = c .before .before .before .before in
+    let at-loop-test = at-scan .before .before in
+    let at-loop = at-loop-test .before in
+    let at-start = at-loop .before .before .before .before in
+    onward (at-start .pre .0) _ (at-start .pre .1) _ _ _ (at-loop .loop .inv) _ _ (at-loop-test .loop-test .taken) (at-scan .scan .ensures)
+    (c .next-open .ensures)
 
 slice-aggregate-mask-of : tie.Need-slice-aggregate-mask-of Inv-loop μ-loop
 slice-aggregate-mask-of c = search needs
@@ -58,7 +83,11 @@ mask-of-requires : tie.Need-mask-of-requires Inv-loop μ-loop
 mask-of-requires c κs = c .before .before .loop .inv .found-long
 
 returns : tie.Need-returns Inv-loop μ-loop
-returns c = c .mask-of .ensures ∙ finished (c .before .before .before .before .before .before .before .pre .0) _ (c .before .before .before .before .before .before .before .pre .1) _ _ _ (c .before .before .before .loop .inv) (c .before .before .loop-test .left)
+returns c =
+    let at-loop-test = c .before .before in
+    let at-loop = at-loop-test .before in
+    let at-start = at-loop .before .before .before .before in
+    c .mask-of .ensures ∙ finished (at-start .pre .0) _ (at-start .pre .1) _ _ _ (at-loop .loop .inv) (at-loop-test .loop-test .left)
 
 pub reachable-spec : {M : Type 1} → statement M
 reachable-spec =

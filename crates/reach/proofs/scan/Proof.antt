@@ -28,7 +28,17 @@ leaves-requires : tie.Need-leaves-requires Inv-loop μ-loop
 leaves-requires c κs = search needs
 
 slice-write-found : tie.Need-slice-write-found Inv-loop μ-loop
-slice-write-found c = omega (arith, c .before .before .before .before .before .loop .inv .long, to-few (c .before .before .before .before .before .before .before .before .pre .0) (c .before .before .before .if1 .taken) (c .before .before .before .before .before .before .first-transition .ensures) (c .before .before .record-at .ensures))
+slice-write-found c =
+    let at-record-at = c .before .before in
+    let at-if1 = at-record-at .before in
+    let at-loop = at-if1 .before .before in
+    let at-first-transition = at-loop .before in
+    let at-start = at-first-transition .before .before in
+    omega (
+      arith,
+      at-loop .loop .inv .long,
+      to-few (at-start .pre .0) (at-if1 .if1 .taken) (at-first-transition .first-transition .ensures) (at-record-at .record-at .ensures),
+    )
 
 add-k : tie.Need-add-k Inv-loop μ-loop
 add-k c = search needs
@@ -37,7 +47,13 @@ loop-less : tie.Need-loop-less Inv-loop μ-loop
 loop-less c = search needs
 
 loop-again : tie.Need-loop-again Inv-loop μ-loop
-loop-again c = more _ _ _ _ _ _ _ (c .before .before .before .before .before .loop .inv) _ _ _ _ (c .before .before .before .if1 .taken) (c .before .before .before .before .before .before .first-transition .ensures) (c .before .before .record-at .ensures) (c .before .leaves .ensures) (rw (c .if2 .taken))
+loop-again c =
+    let at-record-at = c .before .before in
+    let at-if1 = at-record-at .before in
+    let at-loop = at-if1 .before .before in
+    let at-first-transition = at-loop .before in
+    more _ _ _ _ _ _ _ (at-loop .loop .inv) _ _ _ _ (at-if1 .if1 .taken) (at-first-transition .first-transition .ensures)
+    (at-record-at .record-at .ensures) (c .before .leaves .ensures) (rw (c .if2 .taken))
 
 add-k-2 : tie.Need-add-k-2 Inv-loop μ-loop
 add-k-2 c = search needs
@@ -46,7 +62,13 @@ loop-less-2 : tie.Need-loop-less-2 Inv-loop μ-loop
 loop-less-2 c = search needs
 
 loop-again-2 : tie.Need-loop-again-2 Inv-loop μ-loop
-loop-again-2 c = more _ _ _ _ _ _ _ (c .before .before .before .before .before .loop .inv) _ _ _ _ (c .before .before .before .if1 .taken) (c .before .before .before .before .before .before .first-transition .ensures) (c .before .before .record-at .ensures) (c .before .leaves .ensures) (rw (c .if2 .left))
+loop-again-2 c =
+    let at-record-at = c .before .before in
+    let at-if1 = at-record-at .before in
+    let at-loop = at-if1 .before .before in
+    let at-first-transition = at-loop .before in
+    more _ _ _ _ _ _ _ (at-loop .loop .inv) _ _ _ _ (at-if1 .if1 .taken) (at-first-transition .first-transition .ensures)
+    (at-record-at .record-at .ensures) (c .before .leaves .ensures) (rw (c .if2 .left))
 
 same-length : tie.Need-same-length Inv-loop μ-loop
 same-length c = search needs

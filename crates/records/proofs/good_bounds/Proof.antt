@@ -21,7 +21,18 @@ returns c = rw (c .before .before .match .keys1)
 
 returns-2 : tie.Need-returns-2
 unfolding goodBounds
-returns-2 c = rw (c .match .keys2, c .before .bounded2 .ensures, c .before .before .at-most .ensures, c .before .before .before .bounded .ensures, back (c .before .before .before .before .fits .min), back (c .before .before .before .before .fits .max))
+returns-2 c =
+    let at-at-most = c .before .before in
+    let at-bounded = at-at-most .before in
+    let at-start = at-bounded .before in
+    rw (
+      c .match .keys2,
+      c .before .bounded2 .ensures,
+      at-at-most .at-most .ensures,
+      at-bounded .bounded .ensures,
+      back (at-start .fits .min),
+      back (at-start .fits .max),
+    )
 
 returns-3 : tie.Need-returns-3
 unfolding goodBounds

@@ -17,7 +17,11 @@ number-requires c κs = search needs
 
 returns : tie.Need-returns
 unfolding goodChange recordAt
-returns c = rw (lt-ltb _ _ (c .before .before .before .before .before .if1 .taken), c .before .before .number .ensures, c .before .before .before .before .first-entity .ensures)
+returns c =
+    let at-number = c .before .before in
+    let at-first-entity = at-number .before .before in
+    let at-if1 = at-first-entity .before in
+    rw (lt-ltb _ _ (at-if1 .if1 .taken), at-number .number .ensures, at-first-entity .first-entity .ensures)
 
 returns-2 : tie.Need-returns-2
 unfolding goodChange

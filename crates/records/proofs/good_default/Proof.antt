@@ -15,7 +15,16 @@ returns c = rw (eq-eqb _ _ (c .before .if1 .taken))
 
 returns-2 : tie.Need-returns-2
 unfolding goodDefault
-returns-2 c = rw (ne-eqb _ _ (c .before .if1 .left), c .before .before .before .within .ensures, back (c .before .before .before .before .fits .min), back (c .before .before .before .before .fits .default), back (c .before .before .before .before .fits .max))
+returns-2 c =
+    let at-within = c .before .before .before in
+    let at-start = at-within .before in
+    rw (
+      ne-eqb _ _ (c .before .if1 .left),
+      at-within .within .ensures,
+      back (at-start .fits .min),
+      back (at-start .fits .default),
+      back (at-start .fits .max),
+    )
 
 pub good-default-spec : {M : Type 1} → statement M
 good-default-spec = tie.close (tie.spec within-requires returns returns-2)

@@ -19,12 +19,22 @@ number-requires c κs = search needs
 
 add-result : tie.Need-add-result
 unfolding recordAt
-add-result c = let few = few-outcomes (c .before .before .before .before .before .before .before .before .args .s .now) (c .before .before .before .before .before .before .before .before .args .h) (c .before .before .before .before .before .before .before .before .args .r .w1) (c .before .before .before .before .before .before .before .before .pre .1 (c .before .before .before .before .before .before .before .before .args .r .w1) (c .before .before .before .before .before .if1 .taken)) in
-    omega (arith, few, rw (c .before .before .before .before .first-operation .ensures) at (c .before .before .number .ensures))
+add-result c =
+    let at-number = c .before .before in
+    let at-first-operation = at-number .before .before in
+    let at-if1 = at-first-operation .before in
+    let at-start = at-if1 .before .before .before in
+    let few = few-outcomes (at-start .args .s .now) (at-start .args .h) (at-start .args .r .w1)
+    (at-start .pre .1 (at-start .args .r .w1) (at-if1 .if1 .taken)) in
+    omega (arith, few, rw (at-first-operation .first-operation .ensures) at (at-number .number .ensures))
 
 returns : tie.Need-returns
 unfolding goodOperationStep recordAt
-returns c = rw (lt-ltb _ _ (c .before .before .before .before .before .before .if1 .taken), c .before .before .before .number .ensures, c .before .before .before .before .before .first-operation .ensures)
+returns c =
+    let at-number = c .before .before .before in
+    let at-first-operation = at-number .before .before in
+    let at-if1 = at-first-operation .before in
+    rw (lt-ltb _ _ (at-if1 .if1 .taken), at-number .number .ensures, at-first-operation .first-operation .ensures)
 
 returns-2 : tie.Need-returns-2
 unfolding goodOperationStep

@@ -10,11 +10,17 @@ unused-requires c κs = search needs
 
 returns : tie.Need-returns
 unfolding goodRouteOf
-returns c = rw (eq-eqb _ _ (c .before .before .if1 .taken), c .before .before .before .before .unused .ensures)
+returns c =
+    let at-if1 = c .before .before in
+    let at-unused = at-if1 .before .before in
+    rw (eq-eqb _ _ (at-if1 .if1 .taken), at-unused .unused .ensures)
 
 returns-2 : tie.Need-returns-2
 unfolding goodRouteOf
-returns-2 c = rw (ne-eqb _ _ (c .before .before .if1 .left), c .before .before .before .before .unused .ensures)
+returns-2 c =
+    let at-if1 = c .before .before in
+    let at-unused = at-if1 .before .before in
+    rw (ne-eqb _ _ (at-if1 .if1 .left), at-unused .unused .ensures)
 
 pub good-route-of-spec : {M : Type 1} → statement M
 good-route-of-spec = tie.close (tie.spec unused-requires returns returns-2)

@@ -15,10 +15,16 @@ admissible-of-many-requires : tie.Need-admissible-of-many-requires
 admissible-of-many-requires c κs = search needs
 
 returns : tie.Need-returns
-returns c = rw (back (c .before .before .before .fits .entity), back (c .before .before .before .fits .state), back (c .before .before .before .fits .persona), back (c .before .before .before .fits .operation)) at (c .admissible-of-few .ensures)
+returns c =
+    let at-start = c .before .before .before in
+    rw (back (at-start .fits .entity), back (at-start .fits .state), back (at-start .fits .persona), back (at-start .fits .operation))
+    at (c .admissible-of-few .ensures)
 
 returns-2 : tie.Need-returns-2
-returns-2 c = rw (back (c .before .before .before .fits .entity), back (c .before .before .before .fits .state), back (c .before .before .before .fits .persona), back (c .before .before .before .fits .operation)) at (c .admissible-of-many .ensures)
+returns-2 c =
+    let at-start = c .before .before .before in
+    rw (back (at-start .fits .entity), back (at-start .fits .state), back (at-start .fits .persona), back (at-start .fits .operation))
+    at (c .admissible-of-many .ensures)
 
 pub admissible-spec : {M : Type 1} → statement M
 admissible-spec =

@@ -13,10 +13,16 @@ slice-aggregate-admissible-on-2 : tie.Need-slice-aggregate-admissible-on-2
 slice-aggregate-admissible-on-2 c = search needs
 
 admissible-on-requires : tie.Need-admissible-on-requires
-admissible-on-requires c κs = (blank-few _ (c .before .before .pre), blank-few _ (c .before .before .pre), refl)
+admissible-on-requires c κs =
+    let at-start = c .before .before in
+    (blank-few _ (at-start .pre), blank-few _ (at-start .pre), refl)
 
 returns : tie.Need-returns
-returns c = rw (back (c .before .before .before .before .before .fits .entity), back (c .before .before .before .before .before .fits .state), back (c .before .before .before .before .before .fits .persona), back (c .before .before .before .before .before .fits .operation)) at (c .before .before .admissible-on .ensures)
+returns c =
+    let at-admissible-on = c .before .before in
+    let at-start = at-admissible-on .before .before .before in
+    rw (back (at-start .fits .entity), back (at-start .fits .state), back (at-start .fits .persona), back (at-start .fits .operation))
+    at (at-admissible-on .admissible-on .ensures)
 
 pub admissible-of-few-spec : {M : Type 1} → statement M
 admissible-of-few-spec =

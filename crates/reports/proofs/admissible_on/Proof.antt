@@ -19,7 +19,9 @@ enum-known-h : tie.Need-enum-known-h
 enum-known-h c = search needs
 
 state-exists-requires : tie.Need-state-exists-requires
-state-exists-requires c κs = (sheet-open _ (c .before .before .before .before .before .open-ranges .ensures .0) (c .before .h .given .1)) .sheet
+state-exists-requires c κs =
+    let at-open-ranges = c .before .before .before .before .before in
+    (sheet-open _ (at-open-ranges .open-ranges .ensures .0) (c .before .h .given .1)) .sheet
 
 exists-requires : tie.Need-exists-requires
 exists-requires c κs = search needs
@@ -37,7 +39,18 @@ enum-told : tie.Need-enum-told
 enum-told c = search needs
 
 answer-admissible-requires : tie.Need-answer-admissible-requires
-answer-admissible-requires c κs = (ranged (sheet-open _ (c .before .before .before .before .before .before .before .before .before .before .before .before .before .open-ranges .ensures .0) (c .before .before .before .before .before .before .before .before .before .h .given .1)) (c .before .before .before .before .before .before .before .before .before .before .before .before .before .open-ranges .ensures .1), numbers-exist (three (c .before .before .before .before .before .before .before .state-exists .ensures) (c .before .before .before .before .before .before .exists .ensures) (c .before .before .before .before .before .exists2 .ensures)) (c .before .before .before .before .judge-call .ensures) (c .before .before .enum-told .given .1))
+answer-admissible-requires c κs =
+    let at-enum-told = c .before .before in
+    let at-judge-call = at-enum-told .before .before in
+    let at-exists2 = at-judge-call .before in
+    let at-exists = at-exists2 .before in
+    let at-state-exists = at-exists .before in
+    let at-h = at-state-exists .before .before in
+    let at-open-ranges = at-h .before .before .before .before in (
+      ranged (sheet-open _ (at-open-ranges .open-ranges .ensures .0) (at-h .h .given .1)) (at-open-ranges .open-ranges .ensures .1),
+      numbers-exist (three (at-state-exists .state-exists .ensures) (at-exists .exists .ensures) (at-exists2 .exists2 .ensures))
+          (at-judge-call .judge-call .ensures) (at-enum-told .enum-told .given .1),
+    )
 
 same-length : tie.Need-same-length
 same-length c = search needs
@@ -47,7 +60,9 @@ same-length-2 c = search needs
 
 returns : tie.Need-returns
 unfolding admissibleReport
-returns c = climb-shut _ _ _ _ (c .before .before .before .before .before .open-ranges .ensures .0) (c .before .r .given .1)
+returns c =
+    let at-open-ranges = c .before .before .before .before .before in
+    climb-shut _ _ _ _ (at-open-ranges .open-ranges .ensures .0) (c .before .r .given .1)
 
 same-length-3 : tie.Need-same-length-3
 same-length-3 c = search needs
@@ -57,7 +72,18 @@ same-length-4 c = search needs
 
 returns-2 : tie.Need-returns-2
 unfolding admissibleReport
-returns-2 c = climb-stopped _ _ _ _ (sheet-open _ (c .before .before .before .before .before .before .before .before .before .before .before .before .open-ranges .ensures .0) (c .before .before .before .before .before .before .before .before .h .given .1)) (three (rw (back (c .before .before .before .before .before .before .before .before .before .before .before .before .before .before .before .fits .entity), back (c .before .before .before .before .before .before .before .before .before .before .before .before .before .before .before .fits .state)) at (c .before .before .before .before .before .before .state-exists .ensures)) (rw (back (c .before .before .before .before .before .before .before .before .before .before .before .before .before .before .before .fits .persona)) at (c .before .before .before .before .before .exists .ensures)) (rw (back (c .before .before .before .before .before .before .before .before .before .before .before .before .before .before .before .fits .operation)) at (c .before .before .before .before .exists2 .ensures))) (c .before .before .before .judge-call .ensures) (c .before .r2 .given .1)
+returns-2 c =
+    let at-judge-call = c .before .before .before in
+    let at-exists2 = at-judge-call .before in
+    let at-exists = at-exists2 .before in
+    let at-state-exists = at-exists .before in
+    let at-h = at-state-exists .before .before in
+    let at-open-ranges = at-h .before .before .before .before in
+    let at-start = at-open-ranges .before .before .before in
+    climb-stopped _ _ _ _ (sheet-open _ (at-open-ranges .open-ranges .ensures .0) (at-h .h .given .1))
+    (three (rw (back (at-start .fits .entity), back (at-start .fits .state)) at (at-state-exists .state-exists .ensures))
+    (rw (back (at-start .fits .persona)) at (at-exists .exists .ensures)) (rw (back (at-start .fits .operation)) at (at-exists2 .exists2 .ensures)))
+    (at-judge-call .judge-call .ensures) (c .before .r2 .given .1)
 
 same-length-5 : tie.Need-same-length-5
 same-length-5 c = search needs
@@ -67,7 +93,21 @@ same-length-6 c = search needs
 
 returns-3 : tie.Need-returns-3
 unfolding admissibleReport
-returns-3 c = climb-is _ _ _ _ (sheet-open _ (c .before .before .before .before .before .before .before .before .before .before .before .before .before .before .open-ranges .ensures .0) (c .before .before .before .before .before .before .before .before .before .before .h .given .1)) (three (rw (back (c .before .before .before .before .before .before .before .before .before .before .before .before .before .before .before .before .before .fits .entity), back (c .before .before .before .before .before .before .before .before .before .before .before .before .before .before .before .before .before .fits .state)) at (c .before .before .before .before .before .before .before .before .state-exists .ensures)) (rw (back (c .before .before .before .before .before .before .before .before .before .before .before .before .before .before .before .before .before .fits .persona)) at (c .before .before .before .before .before .before .before .exists .ensures)) (rw (back (c .before .before .before .before .before .before .before .before .before .before .before .before .before .before .before .before .before .fits .operation)) at (c .before .before .before .before .before .before .exists2 .ensures))) (c .before .before .before .before .before .judge-call .ensures) (c .before .before .before .enum-told .given .1) (ap Is (rw (back (c .before .before .before .before .before .before .before .before .before .before .before .before .before .before .before .before .before .fits .entity), back (c .before .before .before .before .before .before .before .before .before .before .before .before .before .before .before .before .before .fits .state), back (c .before .before .before .before .before .before .before .before .before .before .before .before .before .before .before .before .before .fits .persona), back (c .before .before .before .before .before .before .before .before .before .before .before .before .before .before .before .before .before .fits .operation)) at (c .answer-admissible .ensures)))
+returns-3 c =
+    let at-enum-told = c .before .before .before in
+    let at-judge-call = at-enum-told .before .before in
+    let at-exists2 = at-judge-call .before in
+    let at-exists = at-exists2 .before in
+    let at-state-exists = at-exists .before in
+    let at-h = at-state-exists .before .before in
+    let at-open-ranges = at-h .before .before .before .before in
+    let at-start = at-open-ranges .before .before .before in
+    climb-is _ _ _ _ (sheet-open _ (at-open-ranges .open-ranges .ensures .0) (at-h .h .given .1))
+    (three (rw (back (at-start .fits .entity), back (at-start .fits .state)) at (at-state-exists .state-exists .ensures))
+    (rw (back (at-start .fits .persona)) at (at-exists .exists .ensures)) (rw (back (at-start .fits .operation)) at (at-exists2 .exists2 .ensures)))
+    (at-judge-call .judge-call .ensures) (at-enum-told .enum-told .given .1)
+    (ap Is (rw (back (at-start .fits .entity), back (at-start .fits .state), back (at-start .fits .persona), back (at-start .fits .operation))
+    at (c .answer-admissible .ensures)))
 
 pub admissible-on-spec : {M : Type 1} → statement M
 admissible-on-spec =

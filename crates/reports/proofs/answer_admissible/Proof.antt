@@ -18,13 +18,34 @@ num-requires-4 : tie.Need-num-requires-4
 num-requires-4 c κs = search needs
 
 admissible-requires : tie.Need-admissible-requires
-admissible-requires c κs = (c .before .before .before .before .pre .0, admissible-named _ _ _ _ _ _ (c .before .before .before .before .pre .1) (rw (back (c .before .before .before .before .fits .persona)) at (c .before .num3 .ensures)) (rw (back (c .before .before .before .before .fits .operation)) at (c .num4 .ensures)))
+admissible-requires c κs =
+    let at-start = c .before .before .before .before in (
+      at-start .pre .0,
+      admissible-named _ _ _ _ _ _ (at-start .pre .1) (rw (back (at-start .fits .persona)) at (c .before .num3 .ensures))
+          (rw (back (at-start .fits .operation)) at (c .num4 .ensures)),
+    )
 
 yes-no-requires : tie.Need-yes-no-requires
 yes-no-requires c κs = search needs
 
 returns : tie.Need-returns
-returns c = rw (c .before .admissible .ensures, c .before .before .num4 .ensures, c .before .before .before .num3 .ensures, c .before .before .before .before .num2 .ensures, c .before .before .before .before .before .num .ensures, back (c .before .before .before .before .before .before .fits .entity), back (c .before .before .before .before .before .before .fits .state), back (c .before .before .before .before .before .before .fits .persona), back (c .before .before .before .before .before .before .fits .operation)) at (c .yes-no .ensures)
+returns c =
+    let at-num4 = c .before .before in
+    let at-num3 = at-num4 .before in
+    let at-num2 = at-num3 .before in
+    let at-num = at-num2 .before in
+    let at-start = at-num .before in
+    rw (
+      c .before .admissible .ensures,
+      at-num4 .num4 .ensures,
+      at-num3 .num3 .ensures,
+      at-num2 .num2 .ensures,
+      at-num .num .ensures,
+      back (at-start .fits .entity),
+      back (at-start .fits .state),
+      back (at-start .fits .persona),
+      back (at-start .fits .operation),
+    ) at (c .yes-no .ensures)
 
 pub answer-admissible-spec : {M : Type 1} → statement M
 answer-admissible-spec =

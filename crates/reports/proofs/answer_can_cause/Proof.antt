@@ -18,13 +18,32 @@ num-requires-4 : tie.Need-num-requires-4
 num-requires-4 c κs = search needs
 
 can-cause-requires : tie.Need-can-cause-requires
-can-cause-requires c κs = (c .before .before .before .before .pre .0, cause-named _ _ _ _ _ _ (c .before .before .before .before .pre .1) (rw (back (c .before .before .before .before .fits .persona)) at (c .before .before .before .num .ensures)))
+can-cause-requires c κs =
+    let at-num = c .before .before .before in
+    let at-start = at-num .before in
+    (at-start .pre .0, cause-named _ _ _ _ _ _ (at-start .pre .1) (rw (back (at-start .fits .persona)) at (at-num .num .ensures)))
 
 yes-no-requires : tie.Need-yes-no-requires
 yes-no-requires c κs = search needs
 
 returns : tie.Need-returns
-returns c = rw (c .before .can-cause .ensures, c .before .before .num4 .ensures, c .before .before .before .num3 .ensures, c .before .before .before .before .num2 .ensures, c .before .before .before .before .before .num .ensures, back (c .before .before .before .before .before .before .fits .persona), back (c .before .before .before .before .before .before .fits .entity), back (c .before .before .before .before .before .before .fits .from), back (c .before .before .before .before .before .before .fits .to)) at (c .yes-no .ensures)
+returns c =
+    let at-num4 = c .before .before in
+    let at-num3 = at-num4 .before in
+    let at-num2 = at-num3 .before in
+    let at-num = at-num2 .before in
+    let at-start = at-num .before in
+    rw (
+      c .before .can-cause .ensures,
+      at-num4 .num4 .ensures,
+      at-num3 .num3 .ensures,
+      at-num2 .num2 .ensures,
+      at-num .num .ensures,
+      back (at-start .fits .persona),
+      back (at-start .fits .entity),
+      back (at-start .fits .from),
+      back (at-start .fits .to),
+    ) at (c .yes-no .ensures)
 
 pub answer-can-cause-spec : {M : Type 1} → statement M
 answer-can-cause-spec =

@@ -15,10 +15,16 @@ can-cause-of-many-requires : tie.Need-can-cause-of-many-requires
 can-cause-of-many-requires c κs = search needs
 
 returns : tie.Need-returns
-returns c = rw (back (c .before .before .before .fits .persona), back (c .before .before .before .fits .entity), back (c .before .before .before .fits .from), back (c .before .before .before .fits .to)) at (c .can-cause-of-few .ensures)
+returns c =
+    let at-start = c .before .before .before in
+    rw (back (at-start .fits .persona), back (at-start .fits .entity), back (at-start .fits .from), back (at-start .fits .to))
+    at (c .can-cause-of-few .ensures)
 
 returns-2 : tie.Need-returns-2
-returns-2 c = rw (back (c .before .before .before .fits .persona), back (c .before .before .before .fits .entity), back (c .before .before .before .fits .from), back (c .before .before .before .fits .to)) at (c .can-cause-of-many .ensures)
+returns-2 c =
+    let at-start = c .before .before .before in
+    rw (back (at-start .fits .persona), back (at-start .fits .entity), back (at-start .fits .from), back (at-start .fits .to))
+    at (c .can-cause-of-many .ensures)
 
 pub can-cause-spec : {M : Type 1} → statement M
 can-cause-spec =

@@ -22,10 +22,16 @@ exists-requires : tie.Need-exists-requires
 exists-requires c κs = search needs
 
 state-exists-requires : tie.Need-state-exists-requires
-state-exists-requires c κs = (sheet-open _ (c .before .before .before .before .before .before .open-ranges .ensures .0) (c .before .before .h .given .1)) .sheet
+state-exists-requires c κs =
+    let at-h = c .before .before in
+    let at-open-ranges = at-h .before .before .before .before in
+    (sheet-open _ (at-open-ranges .open-ranges .ensures .0) (at-h .h .given .1)) .sheet
 
 state-exists-requires-2 : tie.Need-state-exists-requires-2
-state-exists-requires-2 c κs = (sheet-open _ (c .before .before .before .before .before .before .before .open-ranges .ensures .0) (c .before .before .before .h .given .1)) .sheet
+state-exists-requires-2 c κs =
+    let at-h = c .before .before .before in
+    let at-open-ranges = at-h .before .before .before .before in
+    (sheet-open _ (at-open-ranges .open-ranges .ensures .0) (at-h .h .given .1)) .sheet
 
 judge-call-requires : tie.Need-judge-call-requires
 judge-call-requires c κs = search needs
@@ -37,7 +43,18 @@ enum-told : tie.Need-enum-told
 enum-told c = search needs
 
 answer-can-cause-requires : tie.Need-answer-can-cause-requires
-answer-can-cause-requires c κs = (ranged (sheet-open _ (c .before .before .before .before .before .before .before .before .before .before .before .before .before .open-ranges .ensures .0) (c .before .before .before .before .before .before .before .before .before .h .given .1)) (c .before .before .before .before .before .before .before .before .before .before .before .before .before .open-ranges .ensures .1), numbers-exist (three (c .before .before .before .before .before .before .before .exists .ensures) (c .before .before .before .before .before .before .state-exists .ensures) (c .before .before .before .before .before .state-exists2 .ensures)) (c .before .before .before .before .judge-call .ensures) (c .before .before .enum-told .given .1))
+answer-can-cause-requires c κs =
+    let at-enum-told = c .before .before in
+    let at-judge-call = at-enum-told .before .before in
+    let at-state-exists2 = at-judge-call .before in
+    let at-state-exists = at-state-exists2 .before in
+    let at-exists = at-state-exists .before in
+    let at-h = at-exists .before .before in
+    let at-open-ranges = at-h .before .before .before .before in (
+      ranged (sheet-open _ (at-open-ranges .open-ranges .ensures .0) (at-h .h .given .1)) (at-open-ranges .open-ranges .ensures .1),
+      numbers-exist (three (at-exists .exists .ensures) (at-state-exists .state-exists .ensures) (at-state-exists2 .state-exists2 .ensures))
+          (at-judge-call .judge-call .ensures) (at-enum-told .enum-told .given .1),
+    )
 
 same-length : tie.Need-same-length
 same-length c = search needs
@@ -47,7 +64,9 @@ same-length-2 c = search needs
 
 returns : tie.Need-returns
 unfolding canCauseReport
-returns c = climb-shut _ _ _ _ (c .before .before .before .before .before .open-ranges .ensures .0) (c .before .r .given .1)
+returns c =
+    let at-open-ranges = c .before .before .before .before .before in
+    climb-shut _ _ _ _ (at-open-ranges .open-ranges .ensures .0) (c .before .r .given .1)
 
 same-length-3 : tie.Need-same-length-3
 same-length-3 c = search needs
@@ -57,7 +76,19 @@ same-length-4 c = search needs
 
 returns-2 : tie.Need-returns-2
 unfolding canCauseReport
-returns-2 c = climb-stopped _ _ _ _ (sheet-open _ (c .before .before .before .before .before .before .before .before .before .before .before .before .open-ranges .ensures .0) (c .before .before .before .before .before .before .before .before .h .given .1)) (three (rw (back (c .before .before .before .before .before .before .before .before .before .before .before .before .before .before .before .fits .persona)) at (c .before .before .before .before .before .before .exists .ensures)) (rw (back (c .before .before .before .before .before .before .before .before .before .before .before .before .before .before .before .fits .entity), back (c .before .before .before .before .before .before .before .before .before .before .before .before .before .before .before .fits .from)) at (c .before .before .before .before .before .state-exists .ensures)) (rw (back (c .before .before .before .before .before .before .before .before .before .before .before .before .before .before .before .fits .entity), back (c .before .before .before .before .before .before .before .before .before .before .before .before .before .before .before .fits .to)) at (c .before .before .before .before .state-exists2 .ensures))) (c .before .before .before .judge-call .ensures) (c .before .r2 .given .1)
+returns-2 c =
+    let at-judge-call = c .before .before .before in
+    let at-state-exists2 = at-judge-call .before in
+    let at-state-exists = at-state-exists2 .before in
+    let at-exists = at-state-exists .before in
+    let at-h = at-exists .before .before in
+    let at-open-ranges = at-h .before .before .before .before in
+    let at-start = at-open-ranges .before .before .before in
+    climb-stopped _ _ _ _ (sheet-open _ (at-open-ranges .open-ranges .ensures .0) (at-h .h .given .1))
+    (three (rw (back (at-start .fits .persona)) at (at-exists .exists .ensures))
+    (rw (back (at-start .fits .entity), back (at-start .fits .from)) at (at-state-exists .state-exists .ensures))
+    (rw (back (at-start .fits .entity), back (at-start .fits .to)) at (at-state-exists2 .state-exists2 .ensures)))
+    (at-judge-call .judge-call .ensures) (c .before .r2 .given .1)
 
 same-length-5 : tie.Need-same-length-5
 same-length-5 c = search needs
@@ -67,7 +98,22 @@ same-length-6 c = search needs
 
 returns-3 : tie.Need-returns-3
 unfolding canCauseReport
-returns-3 c = climb-is _ _ _ _ (sheet-open _ (c .before .before .before .before .before .before .before .before .before .before .before .before .before .before .open-ranges .ensures .0) (c .before .before .before .before .before .before .before .before .before .before .h .given .1)) (three (rw (back (c .before .before .before .before .before .before .before .before .before .before .before .before .before .before .before .before .before .fits .persona)) at (c .before .before .before .before .before .before .before .before .exists .ensures)) (rw (back (c .before .before .before .before .before .before .before .before .before .before .before .before .before .before .before .before .before .fits .entity), back (c .before .before .before .before .before .before .before .before .before .before .before .before .before .before .before .before .before .fits .from)) at (c .before .before .before .before .before .before .before .state-exists .ensures)) (rw (back (c .before .before .before .before .before .before .before .before .before .before .before .before .before .before .before .before .before .fits .entity), back (c .before .before .before .before .before .before .before .before .before .before .before .before .before .before .before .before .before .fits .to)) at (c .before .before .before .before .before .before .state-exists2 .ensures))) (c .before .before .before .before .before .judge-call .ensures) (c .before .before .before .enum-told .given .1) (ap Is (rw (back (c .before .before .before .before .before .before .before .before .before .before .before .before .before .before .before .before .before .fits .persona), back (c .before .before .before .before .before .before .before .before .before .before .before .before .before .before .before .before .before .fits .entity), back (c .before .before .before .before .before .before .before .before .before .before .before .before .before .before .before .before .before .fits .from), back (c .before .before .before .before .before .before .before .before .before .before .before .before .before .before .before .before .before .fits .to)) at (c .answer-can-cause .ensures)))
+returns-3 c =
+    let at-enum-told = c .before .before .before in
+    let at-judge-call = at-enum-told .before .before in
+    let at-state-exists2 = at-judge-call .before in
+    let at-state-exists = at-state-exists2 .before in
+    let at-exists = at-state-exists .before in
+    let at-h = at-exists .before .before in
+    let at-open-ranges = at-h .before .before .before .before in
+    let at-start = at-open-ranges .before .before .before in
+    climb-is _ _ _ _ (sheet-open _ (at-open-ranges .open-ranges .ensures .0) (at-h .h .given .1))
+    (three (rw (back (at-start .fits .persona)) at (at-exists .exists .ensures))
+    (rw (back (at-start .fits .entity), back (at-start .fits .from)) at (at-state-exists .state-exists .ensures))
+    (rw (back (at-start .fits .entity), back (at-start .fits .to)) at (at-state-exists2 .state-exists2 .ensures)))
+    (at-judge-call .judge-call .ensures) (at-enum-told .enum-told .given .1)
+    (ap Is (rw (back (at-start .fits .persona), back (at-start .fits .entity), back (at-start .fits .from), back (at-start .fits .to))
+    at (c .answer-can-cause .ensures)))
 
 pub can-cause-on-spec : {M : Type 1} → statement M
 can-cause-on-spec =

@@ -34,13 +34,33 @@ num-requires : tie.Need-num-requires
 num-requires c κs = search needs
 
 returns : tie.Need-returns
-returns c = find-shut _ _ _ (c .before .before .before .open-sheet .ensures) (c .before .r .given .1)
+returns c =
+    let at-open-sheet = c .before .before .before in
+    find-shut _ _ _ (at-open-sheet .open-sheet .ensures) (c .before .r .given .1)
 
 returns-2 : tie.Need-returns-2
-returns-2 c = find-stopped _ _ _ (sheet-open _ (c .before .before .before .before .before .before .before .before .before .open-sheet .ensures) (c .before .before .before .before .before .before .before .h .given .1)) (rw (back (c .before .before .before .before .before .before .before .before .before .before .fits .x), c .before .before .before .before .before .size .ensures) at (c .before .before .before .before .exists .ensures)) (c .before .before .before .judge-call .ensures) (c .before .r2 .given .1)
+returns-2 c =
+    let at-judge-call = c .before .before .before in
+    let at-exists = at-judge-call .before in
+    let at-size = at-exists .before in
+    let at-h = at-size .before .before in
+    let at-open-sheet = at-h .before .before in
+    let at-start = at-open-sheet .before in
+    find-stopped _ _ _ (sheet-open _ (at-open-sheet .open-sheet .ensures) (at-h .h .given .1))
+    (rw (back (at-start .fits .x), at-size .size .ensures) at (at-exists .exists .ensures)) (at-judge-call .judge-call .ensures)
+    (c .before .r2 .given .1)
 
 returns-3 : tie.Need-returns-3
-returns-3 c = find-is _ _ _ (sheet-open _ (c .before .before .before .before .before .before .before .before .before .open-sheet .ensures) (c .before .before .before .before .before .before .before .h .given .1)) (rw (back (c .before .before .before .before .before .before .before .before .before .before .fits .x), c .before .before .before .before .before .size .ensures) at (c .before .before .before .before .exists .ensures)) (c .before .before .before .judge-call .ensures) (c .before .enum-told .given .1) (rw (back (c .before .before .before .before .before .before .before .before .before .before .fits .x)) at (c .num .ensures))
+returns-3 c =
+    let at-judge-call = c .before .before .before in
+    let at-exists = at-judge-call .before in
+    let at-size = at-exists .before in
+    let at-h = at-size .before .before in
+    let at-open-sheet = at-h .before .before in
+    let at-start = at-open-sheet .before in
+    find-is _ _ _ (sheet-open _ (at-open-sheet .open-sheet .ensures) (at-h .h .given .1))
+    (rw (back (at-start .fits .x), at-size .size .ensures) at (at-exists .exists .ensures)) (at-judge-call .judge-call .ensures)
+    (c .before .enum-told .given .1) (rw (back (at-start .fits .x)) at (c .num .ensures))
 
 pub find-spec : {M : Type 1} → statement M
 find-spec =

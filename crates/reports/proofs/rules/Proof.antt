@@ -17,10 +17,14 @@ enum-known-h c = search needs
 
 returns : tie.Need-returns
 unfolding rulesReport
-returns c = climb-shut _ _ _ _ (c .before .before .before .open-sheet .ensures) (c .before .r .given .1)
+returns c =
+    let at-open-sheet = c .before .before .before in
+    climb-shut _ _ _ _ (at-open-sheet .open-sheet .ensures) (c .before .r .given .1)
 
 returns-2 : tie.Need-returns-2
-returns-2 c = rules-is (sheet-open _ (c .before .before .before .open-sheet .ensures) (c .before .h .given .1))
+returns-2 c =
+    let at-open-sheet = c .before .before .before in
+    rules-is (sheet-open _ (at-open-sheet .open-sheet .ensures) (c .before .h .given .1))
 
 pub rules-spec : {M : Type 1} → statement M
 rules-spec = tie.close (tie.spec open-sheet-requires enum-known-r enum-known-h returns returns-2)

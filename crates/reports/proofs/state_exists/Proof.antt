@@ -12,16 +12,27 @@ num-requires : tie.Need-num-requires
 num-requires c κs = search needs
 
 states-of-requires : tie.Need-states-of-requires
-states-of-requires c κs = (c .before .before .before .pre, named _ (c .before .before .exists .ensures) (c .before .if1 .taken) (c .num .ensures))
+states-of-requires c κs =
+    let at-exists = c .before .before in
+    let at-start = at-exists .before in
+    (at-start .pre, named _ (at-exists .exists .ensures) (c .before .if1 .taken) (c .num .ensures))
 
 exists-requires-2 : tie.Need-exists-requires-2
 exists-requires-2 c κs = search needs
 
 returns : tie.Need-returns
-returns c = state-found _ _ _ _ (rw (back (c .before .before .before .before .before .fits .entity)) at (c .before .before .before .before .exists .ensures)) (c .before .before .before .if1 .taken) (rw (back (c .before .before .before .before .before .fits .state), c .before .states-of .ensures, c .before .before .num .ensures, back (c .before .before .before .before .before .fits .entity)) at (c .exists2 .ensures))
+returns c =
+    let at-num = c .before .before in
+    let at-if1 = at-num .before in
+    let at-exists = at-if1 .before in
+    let at-start = at-exists .before in
+    state-found _ _ _ _ (rw (back (at-start .fits .entity)) at (at-exists .exists .ensures)) (at-if1 .if1 .taken)
+    (rw (back (at-start .fits .state), c .before .states-of .ensures, at-num .num .ensures, back (at-start .fits .entity)) at (c .exists2 .ensures))
 
 returns-2 : tie.Need-returns-2
-returns-2 c = state-lost _ _ _ _ (rw (back (c .before .before .fits .entity)) at (c .before .exists .ensures)) (c .if1 .left)
+returns-2 c =
+    let at-start = c .before .before in
+    state-lost _ _ _ _ (rw (back (at-start .fits .entity)) at (c .before .exists .ensures)) (c .if1 .left)
 
 pub state-exists-spec : {M : Type 1} → statement M
 state-exists-spec =

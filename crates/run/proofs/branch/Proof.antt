@@ -14,18 +14,37 @@ step-word-requires c κs = search needs
 
 is-true-requires : tie.Need-is-true-requires
 unfolding recordAt
-is-true-requires c κs = evaluable (c .before .before .pre .0) (c .before .before .pre .1) _ (c .step-word .ensures)
+is-true-requires c κs =
+    let at-start = c .before .before in
+    evaluable (at-start .pre .0) (at-start .pre .1) _ (c .step-word .ensures)
 
 add-result : tie.Need-add-result
-add-result c = omega (arith, c .before .before .before .first-route .ensures, branch-two (c .before .before .before .before .pre .0) (c .before .before .before .before .pre .1), routes-end (c .before .before .before .before .pre .0), c .before .before .before .before .pre .0 .accepted .sized .limits .routes)
+add-result c =
+    let at-first-route = c .before .before .before in
+    let at-start = at-first-route .before in
+    omega (
+      arith,
+      at-first-route .first-route .ensures,
+      branch-two (at-start .pre .0) (at-start .pre .1),
+      routes-end (at-start .pre .0),
+      at-start .pre .0 .accepted .sized .limits .routes,
+    )
 
 returns : tie.Need-returns
 unfolding recordAt
-returns c = on-true (c .before .before .before .before .pre .0) (c .before .before .before .first-route .ensures) (c .before .before .step-word .ensures) (c .before .is-true .ensures) (c .if1 .taken)
+returns c =
+    let at-step-word = c .before .before in
+    let at-first-route = at-step-word .before in
+    let at-start = at-first-route .before in
+    on-true (at-start .pre .0) (at-first-route .first-route .ensures) (at-step-word .step-word .ensures) (c .before .is-true .ensures) (c .if1 .taken)
 
 returns-2 : tie.Need-returns-2
 unfolding recordAt
-returns-2 c = on-false (c .before .before .before .before .pre .0) (c .before .before .before .first-route .ensures) (c .before .before .step-word .ensures) (c .before .is-true .ensures) (c .if1 .left)
+returns-2 c =
+    let at-step-word = c .before .before in
+    let at-first-route = at-step-word .before in
+    let at-start = at-first-route .before in
+    on-false (at-start .pre .0) (at-first-route .first-route .ensures) (at-step-word .step-word .ensures) (c .before .is-true .ensures) (c .if1 .left)
 
 pub branch-spec : {M : Type 1} → statement M
 branch-spec =

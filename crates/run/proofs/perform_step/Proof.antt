@@ -20,27 +20,61 @@ step-word-requires-2 c κs = search needs
 
 recall-requires : tie.Need-recall-requires
 unfolding recordAt
-recall-requires c κs = let k = askable (c .before .before .before .before .before .before .before .before .pre .0) (c .before .before .before .before .before .before .before .before .pre .1 .0 .0) (c .before .before .before .before .before .before .before .before .pre .1 .0 .1) (c .before .before .before .before .before .first-route .ensures) (c .before .before .before .step-word .ensures) (c .before .before .step-word2 .ensures) in (k .0, (k .1, c .before .before .before .before .before .before .before .before .pre .1 .1))
+recall-requires c κs =
+    let at-step-word2 = c .before .before in
+    let at-step-word = at-step-word2 .before in
+    let at-first-route = at-step-word .before .before in
+    let at-start = at-first-route .before .before .before in
+    let k = askable (at-start .pre .0) (at-start .pre .1 .0 .0) (at-start .pre .1 .0 .1) (at-first-route .first-route .ensures)
+    (at-step-word .step-word .ensures) (at-step-word2 .step-word2 .ensures) in
+    (k .0, (k .1, at-start .pre .1 .1))
 
 attempt-known-requires : tie.Need-attempt-known-requires
 unfolding recordAt
-attempt-known-requires c κs = triable (c .before .before .before .before .before .before .before .before .before .before .before .before .before .before .pre .0) (c .before .before .before .before .before .before .before .before .before .before .before .before .before .before .pre .1 .0 .0) (c .before .before .before .before .before .before .before .before .before .before .before .before .before .before .pre .1 .0 .1) (c .before .before .before .before .before .before .before .before .before .before .before .first-route .ensures) (c .before .before .before .before .before .before .before .before .before .step-word .ensures) (c .before .before .before .before .before .before .before .before .step-word2 .ensures)
+attempt-known-requires c κs =
+    let at-step-word2 = c .before .before .before .before .before .before .before .before in
+    let at-step-word = at-step-word2 .before in
+    let at-first-route = at-step-word .before .before in
+    let at-start = at-first-route .before .before .before in
+    triable (at-start .pre .0) (at-start .pre .1 .0 .0) (at-start .pre .1 .0 .1) (at-first-route .first-route .ensures)
+    (at-step-word .step-word .ensures) (at-step-word2 .step-word2 .ensures)
 
 enum-known-j : tie.Need-enum-known-j
 enum-known-j c = search needs
 
 add-result : tie.Need-add-result
 unfolding recordAt
-add-result c = omega (arith, outcome-fits (c .before .before .before .before .before .before .before .before .before .before .before .before .before .before .before .before .before .before .before .pre .0) (c .before .before .before .before .before .before .before .before .before .before .before .before .before .before .before .before .before .before .before .pre .1 .0 .0) (c .before .before .before .before .before .before .before .before .before .before .before .before .before .before .before .before .before .before .before .pre .1 .0 .1) (c .before .before .before .before .before .before .before .before .before .before .before .before .before .before .before .before .first-route .ensures) (c .before .before .before .before .before .before .before .before .before .before .before .before .before .before .step-word .ensures) (c .before .before .before .before .before .before .before .before .before .before .before .before .before .step-word2 .ensures) (c .before .before .before .before .before .before .before .before .before .before .recall .ensures .0) (c .before .before .before .before .attempt-known .ensures .0) (c .before .before .before .before .attempt-known .ensures .1) _ (c .before .j .given .1), c .before .before .before .before .before .before .before .before .before .before .before .before .before .before .before .before .before .before .before .pre .0 .accepted .sized .limits .routes)
+add-result c =
+    let at-attempt-known = c .before .before .before .before in
+    let at-recall = at-attempt-known .before .before .before .before .before .before in
+    let at-step-word2 = at-recall .before .before .before in
+    let at-step-word = at-step-word2 .before in
+    let at-first-route = at-step-word .before .before in
+    let at-start = at-first-route .before .before .before in
+    omega (
+      arith,
+      outcome-fits (at-start .pre .0) (at-start .pre .1 .0 .0) (at-start .pre .1 .0 .1) (at-first-route .first-route .ensures)
+          (at-step-word .step-word .ensures) (at-step-word2 .step-word2 .ensures) (at-recall .recall .ensures .0)
+          (at-attempt-known .attempt-known .ensures .0) (at-attempt-known .attempt-known .ensures .1) _ (c .before .j .given .1),
+      at-start .pre .0 .accepted .sized .limits .routes,
+    )
 
 enum-told : tie.Need-enum-told
 enum-told c = search needs
 
 add-result-2 : tie.Need-add-result-2
-add-result-2 c = omega (arith, routes-few (c .before .before .before .before .before .before .before .before .before .before .before .before .before .before .before .before .before .before .pre .0) (c .before .before .before .before .before .before .before .before .before .before .before .before .before .before .before .before .before .before .pre .1 .0 .1) (c .before .before .before .before .before .before .before .before .before .before .before .before .before .before .before .first-route .ensures) (c .before .before .before .before .before .before .before .before .before .before .before .before .before .before .routes .ensures))
+add-result-2 c =
+    let at-routes = c .before .before .before .before .before .before .before .before .before .before .before .before .before .before in
+    let at-first-route = at-routes .before in
+    let at-start = at-first-route .before .before .before in
+    omega (arith, routes-few (at-start .pre .0) (at-start .pre .1 .0 .1) (at-first-route .first-route .ensures) (at-routes .routes .ensures))
 
 sub-result : tie.Need-sub-result
-sub-result c = omega (arith, routes-few (c .before .before .before .before .before .before .before .before .before .before .before .before .before .before .before .before .before .before .pre .0) (c .before .before .before .before .before .before .before .before .before .before .before .before .before .before .before .before .before .before .pre .1 .0 .1) (c .before .before .before .before .before .before .before .before .before .before .before .before .before .before .before .first-route .ensures) (c .before .before .before .before .before .before .before .before .before .before .before .before .before .before .routes .ensures))
+sub-result c =
+    let at-routes = c .before .before .before .before .before .before .before .before .before .before .before .before .before .before in
+    let at-first-route = at-routes .before in
+    let at-start = at-first-route .before .before .before in
+    omega (arith, routes-few (at-start .pre .0) (at-start .pre .1 .0 .1) (at-first-route .first-route .ensures) (at-routes .routes .ensures))
 
 same-length : tie.Need-same-length
 same-length c = search needs
@@ -53,7 +87,17 @@ same-length-3 c = search needs
 
 returns : tie.Need-returns
 unfolding recordAt
-returns c = let k = by-outcome (c .before .before .before .before .before .before .before .before .before .before .before .before .before .before .before .before .before .before .before .pre .0) (c .before .before .before .before .before .before .before .before .before .before .before .before .before .before .before .before .before .before .before .pre .1 .0 .0) (c .before .before .before .before .before .before .before .before .before .before .before .before .before .before .before .before .before .before .before .pre .1 .0 .1) (c .before .before .before .before .before .before .before .before .before .before .before .before .before .before .before .before .first-route .ensures) (c .before .before .before .before .before .before .before .before .before .before .before .before .before .before .step-word .ensures) (c .before .before .before .before .before .before .before .before .before .before .before .before .before .step-word2 .ensures) (c .before .before .before .before .before .before .before .before .before .before .recall .ensures .0) (c .before .before .before .before .attempt-known .ensures .0) (c .before .before .before .before .attempt-known .ensures .1) _ (c .before .j .given .1) in (k .0, (k .1, c .before .before .before .before .before .before .before .before .before .before .recall .ensures .1))
+returns c =
+    let at-attempt-known = c .before .before .before .before in
+    let at-recall = at-attempt-known .before .before .before .before .before .before in
+    let at-step-word2 = at-recall .before .before .before in
+    let at-step-word = at-step-word2 .before in
+    let at-first-route = at-step-word .before .before in
+    let at-start = at-first-route .before .before .before in
+    let k = by-outcome (at-start .pre .0) (at-start .pre .1 .0 .0) (at-start .pre .1 .0 .1) (at-first-route .first-route .ensures)
+    (at-step-word .step-word .ensures) (at-step-word2 .step-word2 .ensures) (at-recall .recall .ensures .0)
+    (at-attempt-known .attempt-known .ensures .0) (at-attempt-known .attempt-known .ensures .1) _ (c .before .j .given .1) in
+    (k .0, (k .1, at-recall .recall .ensures .1))
 
 same-length-4 : tie.Need-same-length-4
 same-length-4 c = search needs
@@ -66,7 +110,19 @@ same-length-6 c = search needs
 
 returns-2 : tie.Need-returns-2
 unfolding recordAt
-returns-2 c = let k = by-failure (c .before .before .before .before .before .before .before .before .before .before .before .before .before .before .before .before .before .before .pre .0) (c .before .before .before .before .before .before .before .before .before .before .before .before .before .before .before .before .before .before .pre .1 .0 .0) (c .before .before .before .before .before .before .before .before .before .before .before .before .before .before .before .before .before .before .pre .1 .0 .1) (c .before .before .before .before .before .before .before .before .before .before .before .before .before .before .before .first-route .ensures) (c .before .before .before .before .before .before .before .before .before .before .before .before .before .step-word .ensures) (c .before .before .before .before .before .before .before .before .before .before .before .before .step-word2 .ensures) (c .before .before .before .before .before .before .before .before .before .recall .ensures .0) (c .before .before .before .attempt-known .ensures .0) (c .before .before .before .attempt-known .ensures .1) _ _ (c .enum-told .given .1) (c .before .before .before .before .before .before .before .before .before .before .before .before .before .before .routes .ensures) in (k .0, (k .1, c .before .before .before .before .before .before .before .before .before .recall .ensures .1))
+returns-2 c =
+    let at-attempt-known = c .before .before .before in
+    let at-recall = at-attempt-known .before .before .before .before .before .before in
+    let at-step-word2 = at-recall .before .before .before in
+    let at-step-word = at-step-word2 .before in
+    let at-routes = at-step-word .before in
+    let at-first-route = at-routes .before in
+    let at-start = at-first-route .before .before .before in
+    let k = by-failure (at-start .pre .0) (at-start .pre .1 .0 .0) (at-start .pre .1 .0 .1) (at-first-route .first-route .ensures)
+    (at-step-word .step-word .ensures) (at-step-word2 .step-word2 .ensures) (at-recall .recall .ensures .0)
+    (at-attempt-known .attempt-known .ensures .0) (at-attempt-known .attempt-known .ensures .1) _ _ (c .enum-told .given .1)
+    (at-routes .routes .ensures) in
+    (k .0, (k .1, at-recall .recall .ensures .1))
 
 pub perform-step-spec : {M : Type 1} → statement M
 perform-step-spec =

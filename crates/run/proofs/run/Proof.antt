@@ -12,7 +12,8 @@ use Rattle.run.proofs.run.Statement.{statement}
 use Rattle.run.proofs.run.Tie as tie
 
 abbrev Inv-loop : tie.InvT-loop
-Inv-loop s h facts verdicts states₀ path₀ known₀ holds₀ w₀ states path known holds w = Ongoing s h facts verdicts states₀ (flowOf s h (w₀ .step)) path₀ states path w × Memo s h facts verdicts known holds
+Inv-loop s h facts verdicts states₀ path₀ known₀ holds₀ w₀ states path known holds w =
+    Ongoing s h facts verdicts states₀ (flowOf s h (w₀ .step)) path₀ states path w × Memo s h facts verdicts known holds
 
 abbrev μ-loop : tie.MeasureT-loop
 μ-loop s h facts verdicts states₀ path₀ known₀ holds₀ w₀ states path known holds w = length path₀ - w .length
@@ -30,37 +31,108 @@ slice-aggregate-advance-2 : tie.Need-slice-aggregate-advance-2 Inv-loop μ-loop
 slice-aggregate-advance-2 c = search needs
 
 advance-requires : tie.Need-advance-requires Inv-loop μ-loop
-advance-requires c κs = (run-step (c .before .before .before .before .before .before .before .before .pre) (c .before .before .before .before .before .before .start .ensures) (c .before .before .before .before .before .loop .inv .0) (c .before .before .before .if1 .taken), (run-valid (c .before .before .before .before .before .before .before .before .pre) (c .before .before .before .before .before .before .start .ensures) (c .before .before .before .before .before .loop .inv .0), c .before .before .before .before .before .loop .inv .1))
+advance-requires c κs =
+    let at-if1 = c .before .before .before in
+    let at-loop = at-if1 .before .before in
+    let at-start = at-loop .before in
+    let at-entry = at-start .before .before in (
+      run-step (at-entry .pre) (at-start .start .ensures) (at-loop .loop .inv .0) (at-if1 .if1 .taken),
+      (run-valid (at-entry .pre) (at-start .start .ensures) (at-loop .loop .inv .0), at-loop .loop .inv .1),
+    )
 
 cast-path : tie.Need-cast-path Inv-loop μ-loop
-cast-path c = omega (arith, run-route (c .before .before .before .before .before .before .before .before .before .before .before .before .pre) (c .before .before .before .before .before .before .before .before .before .before .start .ensures) (c .before .before .before .before .before .before .before .before .before .loop .inv .0) (c .before .before .before .before .before .before .before .if1 .taken) _ (c .before .before .before .advance .ensures .0), c .before .before .before .before .before .before .before .before .before .before .before .before .pre .lent .sheet .sized .limits .routes)
+cast-path c =
+    let at-advance = c .before .before .before in
+    let at-if1 = at-advance .before .before .before .before in
+    let at-loop = at-if1 .before .before in
+    let at-start = at-loop .before in
+    let at-entry = at-start .before .before in
+    omega (
+      arith,
+      run-route (at-entry .pre) (at-start .start .ensures) (at-loop .loop .inv .0) (at-if1 .if1 .taken) _ (at-advance .advance .ensures .0),
+      at-entry .pre .lent .sheet .sized .limits .routes,
+    )
 
 mul-path : tie.Need-mul-path Inv-loop μ-loop
-mul-path c = omega (arith, run-few (c .before .before .before .before .before .before .before .before .before .before .before .before .pre) (c .before .before .before .before .before .before .before .before .before .before .start .ensures) (c .before .before .before .before .before .before .before .before .before .loop .inv .0) (c .before .before .before .before .before .before .before .if1 .taken))
+mul-path c =
+    let at-if1 = c .before .before .before .before .before .before .before in
+    let at-loop = at-if1 .before .before in
+    let at-start = at-loop .before in
+    let at-entry = at-start .before .before in
+    omega (arith, run-few (at-entry .pre) (at-start .start .ensures) (at-loop .loop .inv .0) (at-if1 .if1 .taken))
 
 slice-write-path : tie.Need-slice-write-path Inv-loop μ-loop
-slice-write-path c = run-room (c .before .before .before .before .before .before .before .before .before .before .before .before .pre) (c .before .before .before .before .before .before .before .before .before .before .start .ensures) (c .before .before .before .before .before .before .before .before .before .loop .inv .0) (c .before .before .before .before .before .before .before .if1 .taken)
+slice-write-path c =
+    let at-if1 = c .before .before .before .before .before .before .before in
+    let at-loop = at-if1 .before .before in
+    let at-start = at-loop .before in
+    let at-entry = at-start .before .before in
+    run-room (at-entry .pre) (at-start .start .ensures) (at-loop .loop .inv .0) (at-if1 .if1 .taken)
 
 take-requires : tie.Need-take-requires Inv-loop μ-loop
-take-requires c κs = (c .before .before .before .before .before .before .before .before .before .before .before .before .pre .lent .sheet .sized, (run-route (c .before .before .before .before .before .before .before .before .before .before .before .before .pre) (c .before .before .before .before .before .before .before .before .before .before .start .ensures) (c .before .before .before .before .before .before .before .before .before .loop .inv .0) (c .before .before .before .before .before .before .before .if1 .taken) _ (c .before .before .before .advance .ensures .0), omega (arith, run-few (c .before .before .before .before .before .before .before .before .before .before .before .before .pre) (c .before .before .before .before .before .before .before .before .before .before .start .ensures) (c .before .before .before .before .before .before .before .before .before .loop .inv .0) (c .before .before .before .before .before .before .before .if1 .taken))))
+take-requires c κs =
+    let at-advance = c .before .before .before in
+    let at-if1 = at-advance .before .before .before .before in
+    let at-loop = at-if1 .before .before in
+    let at-start = at-loop .before in
+    let at-entry = at-start .before .before in (
+      at-entry .pre .lent .sheet .sized,
+      (
+        run-route (at-entry .pre) (at-start .start .ensures) (at-loop .loop .inv .0) (at-if1 .if1 .taken) _ (at-advance .advance .ensures .0),
+        omega (arith, run-few (at-entry .pre) (at-start .start .ensures) (at-loop .loop .inv .0) (at-if1 .if1 .taken)),
+      ),
+    )
 
 loop-less : tie.Need-loop-less Inv-loop μ-loop
-loop-less c = run-less (c .before .before .before .before .before .before .before .before .before .before .before .before .before .pre) (c .before .before .before .before .before .before .before .before .before .before .before .start .ensures) (c .before .before .before .before .before .before .before .before .before .before .loop .inv .0) (c .before .before .before .before .before .before .before .before .if1 .taken) (c .before .before .before .before .advance .ensures .0) (c .before .before .before .before .advance .ensures .1 .0) (c .take .ensures)
+loop-less c =
+    let at-advance = c .before .before .before .before in
+    let at-if1 = at-advance .before .before .before .before in
+    let at-loop = at-if1 .before .before in
+    let at-start = at-loop .before in
+    let at-entry = at-start .before .before in
+    run-less (at-entry .pre) (at-start .start .ensures) (at-loop .loop .inv .0) (at-if1 .if1 .taken) (at-advance .advance .ensures .0)
+    (at-advance .advance .ensures .1 .0) (c .take .ensures)
 
 loop-again : tie.Need-loop-again Inv-loop μ-loop
-loop-again c = (run-more (c .before .before .before .before .before .before .before .before .before .before .before .before .before .pre) (c .before .before .before .before .before .before .before .before .before .before .before .start .ensures) (c .before .before .before .before .before .before .before .before .before .before .loop .inv .0) (c .before .before .before .before .before .before .before .before .if1 .taken) (c .before .before .before .before .advance .ensures .0) (c .before .before .before .before .advance .ensures .1 .0) (c .take .ensures), c .before .before .before .before .advance .ensures .1 .1)
+loop-again c =
+    let at-advance = c .before .before .before .before in
+    let at-if1 = at-advance .before .before .before .before in
+    let at-loop = at-if1 .before .before in
+    let at-start = at-loop .before in
+    let at-entry = at-start .before .before in (
+      run-more (at-entry .pre) (at-start .start .ensures) (at-loop .loop .inv .0) (at-if1 .if1 .taken) (at-advance .advance .ensures .0)
+          (at-advance .advance .ensures .1 .0) (c .take .ensures),
+      at-advance .advance .ensures .1 .1,
+    )
 
 clear-requires : tie.Need-clear-requires Inv-loop μ-loop
-clear-requires c κs = run-short (c .before .before .before .before .before .before .pre) (c .before .before .before .before .start .ensures) (c .before .before .before .loop .inv .0)
+clear-requires c κs =
+    let at-loop = c .before .before .before in
+    let at-start = at-loop .before in
+    let at-entry = at-start .before .before in
+    run-short (at-entry .pre) (at-start .start .ensures) (at-loop .loop .inv .0)
 
 same-length : tie.Need-same-length Inv-loop μ-loop
-same-length c = run-valid (c .before .before .before .before .before .before .before .before .before .pre) (c .before .before .before .before .before .before .before .start .ensures) (c .before .before .before .before .before .before .loop .inv .0) .long ∙ sym (c .before .before .before .before .before .before .before .before .before .pre .valid .long)
+same-length c =
+    let at-loop = c .before .before .before .before .before .before in
+    let at-start = at-loop .before in
+    let at-entry = at-start .before .before in
+    run-valid (at-entry .pre) (at-start .start .ensures) (at-loop .loop .inv .0) .long ∙ sym (at-entry .pre .valid .long)
 
 same-length-2 : tie.Need-same-length-2 Inv-loop μ-loop
-same-length-2 c = c .before .before .clear .kept .0 ∙ c .before .before .before .before .before .before .loop .inv .0 .size
+same-length-2 c =
+    let at-clear = c .before .before in
+    let at-loop = at-clear .before .before .before .before in
+    at-clear .clear .kept .0 ∙ at-loop .loop .inv .0 .size
 
 returns : tie.Need-returns Inv-loop μ-loop
-returns c = run-done (c .before .before .before .before .before .before .before .before .before .pre) (c .before .before .before .before .before .before .before .start .ensures) (c .before .before .before .before .before .before .loop .inv .0) (c .before .before .before .before .if1 .left) (c .before .before .clear .ensures)
+returns c =
+    let at-clear = c .before .before in
+    let at-if1 = at-clear .before .before in
+    let at-loop = at-if1 .before .before in
+    let at-start = at-loop .before in
+    let at-entry = at-start .before .before in
+    run-done (at-entry .pre) (at-start .start .ensures) (at-loop .loop .inv .0) (at-if1 .if1 .left) (at-clear .clear .ensures)
 
 pub run-spec : {M : Type 1} → statement M
 run-spec =

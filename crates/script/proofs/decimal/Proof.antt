@@ -15,9 +15,10 @@ to-word-requires c κs = search needs
 
 sub-result : tie.Need-sub-result
 sub-result c =
+    let at-start = c .before .before .before in
     rw (back-of (c .before .to-word .result) (c .before .to-word .ok), c .before .to-word .ensures)
-    (fits-size (pos 0 -ℤ pos (c .before .before .before .args .value))
-    (omega (arith, size-minus (pos 0) (pos (c .before .before .before .args .value)))))
+    (fits-size (pos 0 -ℤ pos (at-start .args .value))
+    (omega (arith, size-minus (pos 0) (pos (at-start .args .value)))))
 
 returns-2 : tie.Need-returns-2
 returns-2 c = search needs

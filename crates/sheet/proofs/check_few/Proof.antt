@@ -12,7 +12,9 @@ slice-aggregate-check-ranges-2 : tie.Need-slice-aggregate-check-ranges-2
 slice-aggregate-check-ranges-2 c = search needs
 
 check-ranges-requires : tie.Need-check-ranges-requires
-check-ranges-requires c κs = (blank-few _ (c .before .before .pre), blank-few _ (c .before .before .pre), refl)
+check-ranges-requires c κs =
+    let at-start = c .before .before in
+    (blank-few _ (at-start .pre), blank-few _ (at-start .pre), refl)
 
 returns : tie.Need-returns
 returns c = search needs

@@ -25,22 +25,46 @@ same-length : tie.Need-same-length
 same-length c = search needs
 
 returns-2 : tie.Need-returns-2
-returns-2 c = pass _ _ (c .before .before .before .before .before .before .before .before .before .check-flows .ensures) (c .before .before .before .before .before .before .before .if1 .left) (stop-here _ _ (c .before .before .before .before .before .check-steps .ensures) (c .before .if2 .taken))
+returns-2 c =
+    let at-check-steps = c .before .before .before .before .before in
+    let at-if1 = at-check-steps .before .before in
+    let at-check-flows = at-if1 .before .before in
+    pass _ _ (at-check-flows .check-flows .ensures) (at-if1 .if1 .left) (stop-here _ _ (at-check-steps .check-steps .ensures) (c .before .if2 .taken))
 
 add-result-2 : tie.Need-add-result-2
 add-result-2 c = search needs
 
 check-routes-requires : tie.Need-check-routes-requires
-check-routes-requires c κs = record { sized = c .before .before .before .before .before .before .before .before .before .before .before .before .pre .0; groups = c .before .before .before .before .before .before .before .before .before .before .before .before .pre .1; flows = passed _ _ (c .before .before .before .before .before .before .before .before .before .check-flows .ensures) (c .before .before .before .before .before .before .before .if1 .left); steps = passed _ _ (c .before .before .before .before .before .check-steps .ensures) (c .before .if2 .left) }
+check-routes-requires c κs =
+    let at-check-steps = c .before .before .before .before .before in
+    let at-if1 = at-check-steps .before .before in
+    let at-check-flows = at-if1 .before .before in
+    let at-start = at-check-flows .before .before .before in
+    record {
+      sized = at-start .pre .0;
+      groups = at-start .pre .1;
+      flows = passed _ _ (at-check-flows .check-flows .ensures) (at-if1 .if1 .left);
+      steps = passed _ _ (at-check-steps .check-steps .ensures) (c .before .if2 .left);
+    }
 
 add-result-3 : tie.Need-add-result-3
-add-result-3 c = omega (arith, c .before .before .before .before .before .before .before .before .before .before .before .before .before .pre .0 .limits, at-most _ _ (c .check-routes .ensures))
+add-result-3 c =
+    let at-start = c .before .before .before .before .before .before .before .before .before .before .before .before .before in
+    omega (arith, at-start .pre .0 .limits, at-most _ _ (c .check-routes .ensures))
 
 same-length-2 : tie.Need-same-length-2
 same-length-2 c = search needs
 
 returns-3 : tie.Need-returns-3
-returns-3 c = subst (λ (n : ℕ). First (lowerTables (c .before .before .before .before .before .before .before .before .before .before .before .before .before .args .s .now) (c .before .before .before .before .before .before .before .before .before .before .before .before .before .args .h)) n) (omega arith) (pass _ _ (c .before .before .before .before .before .before .before .before .before .before .check-flows .ensures) (c .before .before .before .before .before .before .before .before .if1 .left) (pass _ _ (c .before .before .before .before .before .before .check-steps .ensures) (c .before .before .if2 .left) (last-one _ (c .check-routes .ensures))))
+returns-3 c =
+    let at-if2 = c .before .before in
+    let at-check-steps = at-if2 .before .before .before .before in
+    let at-if1 = at-check-steps .before .before in
+    let at-check-flows = at-if1 .before .before in
+    let at-start = at-check-flows .before .before .before in
+    subst (λ (n : ℕ). First (lowerTables (at-start .args .s .now) (at-start .args .h)) n) (omega arith)
+    (pass _ _ (at-check-flows .check-flows .ensures) (at-if1 .if1 .left)
+    (pass _ _ (at-check-steps .check-steps .ensures) (at-if2 .if2 .left) (last-one _ (c .check-routes .ensures))))
 
 pub lower-spec : {M : Type 1} → statement M
 lower-spec =

@@ -11,7 +11,9 @@ slice-aggregate-middle-on-2 : tie.Need-slice-aggregate-middle-on-2
 slice-aggregate-middle-on-2 c = search needs
 
 middle-on-requires : tie.Need-middle-on-requires
-middle-on-requires c κs = (c .before .before .before .before .before .pre .0, c .before .before .before .before .before .pre .1, c .before .before .before .before .before .pre .2, unmarked 32 (c .before .before .before .before .before .pre .0 .limits .entities))
+middle-on-requires c κs =
+    let at-start = c .before .before .before .before .before in
+    (at-start .pre .0, at-start .pre .1, at-start .pre .2, unmarked 32 (at-start .pre .0 .limits .entities))
 
 same-length : tie.Need-same-length
 same-length c = search needs

@@ -13,10 +13,19 @@ check-entities-requires : tie.Need-check-entities-requires
 check-entities-requires c κs = search needs
 
 returns : tie.Need-returns
-returns c = (stop-here _ _ (c .before .before .check-entities .ensures) (c .if1 .taken), λ l. absurd (omega (arith, c .if1 .taken)))
+returns c =
+    let at-check-entities = c .before .before in
+    (stop-here _ _ (at-check-entities .check-entities .ensures) (c .if1 .taken), λ l. absurd (omega (arith, c .if1 .taken)))
 
 check-transitions-requires : tie.Need-check-transitions-requires
-check-transitions-requires c κs = (c .before .before .before .before .before .before .before .before .pre .0, passed _ _ (c .before .before .before .check-entities .ensures) (c .before .if1 .left), c .before .before .before .before .before .before .before .before .pre .3 .flags, c .before .before .before .before .before .before .before .before .pre .3 .clear)
+check-transitions-requires c κs =
+    let at-check-entities = c .before .before .before in
+    let at-start = at-check-entities .before .before .before .before .before in (
+      at-start .pre .0,
+      passed _ _ (at-check-entities .check-entities .ensures) (c .before .if1 .left),
+      at-start .pre .3 .flags,
+      at-start .pre .3 .clear,
+    )
 
 add-result : tie.Need-add-result
 add-result c = search needs
@@ -25,16 +34,29 @@ same-length : tie.Need-same-length
 same-length c = search needs
 
 returns-2 : tie.Need-returns-2
-returns-2 c = (pass _ _ (c .before .before .before .before .before .before .before .before .before .check-entities .ensures) (c .before .before .before .before .before .before .before .if1 .left) (stop-here _ _ (c .before .before .before .before .before .check-transitions .ensures .0) (c .before .if2 .taken)), λ l. absurd (omega (arith, c .before .if2 .taken)))
+returns-2 c =
+    let at-check-transitions = c .before .before .before .before .before in
+    let at-if1 = at-check-transitions .before .before in
+    let at-check-entities = at-if1 .before .before in (
+      pass _ _ (at-check-entities .check-entities .ensures) (at-if1 .if1 .left)
+          (stop-here _ _ (at-check-transitions .check-transitions .ensures .0) (c .before .if2 .taken)),
+      λ l. absurd (omega (arith, c .before .if2 .taken)),
+    )
 
 check-operations-requires : tie.Need-check-operations-requires
 check-operations-requires c κs = search needs
 
 add-result-2 : tie.Need-add-result-2
-add-result-2 c = omega (arith, c .before .before .before .before .before .before .before .before .before .before .before .before .before .before .before .before .before .before .before .before .pre .0 .limits)
+add-result-2 c =
+    let at-check-transitions-arg = c .before .before .before .before .before .before .before .before .before .before .before .before in
+    let at-start = at-check-transitions-arg .before .before .before .before .before .before .before .before in
+    omega (arith, at-start .pre .0 .limits)
 
 add-result-3 : tie.Need-add-result-3
-add-result-3 c = omega (arith, c .before .before .before .before .before .before .before .before .before .before .before .before .before .before .before .before .before .before .before .before .pre .0 .limits, c .before .if3 .taken)
+add-result-3 c =
+    let at-check-transitions-arg = c .before .before .before .before .before .before .before .before .before .before .before .before in
+    let at-start = at-check-transitions-arg .before .before .before .before .before .before .before .before in
+    omega (arith, at-start .pre .0 .limits, c .before .if3 .taken)
 
 same-length-2 : tie.Need-same-length-2
 same-length-2 c = search needs
@@ -43,32 +65,58 @@ same-length-3 : tie.Need-same-length-3
 same-length-3 c = search needs
 
 returns-3 : tie.Need-returns-3
-returns-3 c = (
-  subst (λ (n : ℕ). First (middleTables (c .before .before .before .before .before .before .before .before .before .before .before .before .before .before .before .before .before .before .before .before .args .s .now) (c .before .before .before .before .before .before .before .before .before .before .before .before .before .before .before .before .before .before .before .before .args .h)) n) (omega arith) (pass _ _ (c .before .before .before .before .before .before .before .before .before .before .before .before .before .before .before .check-entities .ensures) (c .before .before .before .before .before .before .before .before .before .before .before .before .before .if1 .left) (pass _ _ (c .before .before .before .before .before .before .before .before .before .before .before .check-transitions .ensures .0) (c .before .before .before .before .before .before .before .if2 .left) (stop-here _ _ (c .before .before .before .before .before .check-operations .ensures .0) (c .before .if3 .taken)))),
-  λ l. absurd (omega (arith, c .before .if3 .taken)),
-)
+returns-3 c =
+    let at-check-operations = c .before .before .before .before .before in
+    let at-if2 = at-check-operations .before .before in
+    let at-check-transitions = at-if2 .before .before .before .before in
+    let at-if1 = at-check-transitions .before .before in
+    let at-check-entities = at-if1 .before .before in
+    let at-start = at-check-entities .before .before .before .before .before in (
+      subst (λ (n : ℕ). First (middleTables (at-start .args .s .now) (at-start .args .h)) n) (omega arith)
+          (pass _ _ (at-check-entities .check-entities .ensures) (at-if1 .if1 .left)
+          (pass _ _ (at-check-transitions .check-transitions .ensures .0) (at-if2 .if2 .left)
+          (stop-here _ _ (at-check-operations .check-operations .ensures .0) (c .before .if3 .taken)))),
+      λ l. absurd (omega (arith, c .before .if3 .taken)),
+    )
 
 add-result-4 : tie.Need-add-result-4
-add-result-4 c = omega (arith, c .before .before .before .before .before .before .before .before .before .before .before .before .before .before .before .before .before .before .before .before .pre .0 .limits)
+add-result-4 c =
+    let at-check-transitions-arg = c .before .before .before .before .before .before .before .before .before .before .before .before in
+    let at-start = at-check-transitions-arg .before .before .before .before .before .before .before .before in
+    omega (arith, at-start .pre .0 .limits)
 
 add-result-5 : tie.Need-add-result-5
-add-result-5 c = omega (arith, c .before .before .before .before .before .before .before .before .before .before .before .before .before .before .before .before .before .before .before .before .before .pre .0 .limits)
+add-result-5 c =
+    let at-check-transitions = c .before .before .before .before .before .before .before .before .before .before .before .before in
+    let at-start = at-check-transitions .before .before .before .before .before .before .before .before .before in
+    omega (arith, at-start .pre .0 .limits)
 
 check-effects-requires : tie.Need-check-effects-requires
-check-effects-requires c κs = (
-  record {
-    sized = c .before .before .before .before .before .before .before .before .before .before .before .before .before .before .before .before .before .before .before .before .before .before .before .pre .0;
-    groups = c .before .before .before .before .before .before .before .before .before .before .before .before .before .before .before .before .before .before .before .before .before .before .before .pre .1;
-    entities = passed _ _ (c .before .before .before .before .before .before .before .before .before .before .before .before .before .before .before .before .before .before .check-entities .ensures) (c .before .before .before .before .before .before .before .before .before .before .before .before .before .before .before .before .if1 .left);
-    declared = own-declared (c .before .before .before .before .before .before .before .before .before .before .before .before .before .before .check-transitions .ensures .1 (c .before .before .before .before .before .before .before .before .before .before .if2 .left));
-    operations = passed _ _ (c .before .before .before .before .before .before .before .before .check-operations .ensures .0) (c .before .before .before .before .if3 .left);
-  },
-  c .before .before .before .before .before .before .before .before .before .before .before .before .before .before .before .before .before .before .before .before .before .before .before .pre .3 .stamps,
-  c .before .before .before .before .before .before .before .before .before .before .before .before .before .before .before .before .before .before .before .before .before .before .before .pre .3 .fresh,
-)
+check-effects-requires c κs =
+    let at-if3 = c .before .before .before .before in
+    let at-check-operations = at-if3 .before .before .before .before in
+    let at-if2 = at-check-operations .before .before in
+    let at-check-transitions = at-if2 .before .before .before .before in
+    let at-if1 = at-check-transitions .before .before in
+    let at-check-entities = at-if1 .before .before in
+    let at-start = at-check-entities .before .before .before .before .before in (
+      record {
+        sized = at-start .pre .0;
+        groups = at-start .pre .1;
+        entities = passed _ _ (at-check-entities .check-entities .ensures) (at-if1 .if1 .left);
+        declared = own-declared (at-check-transitions .check-transitions .ensures .1 (at-if2 .if2 .left));
+        operations = passed _ _ (at-check-operations .check-operations .ensures .0) (at-if3 .if3 .left);
+      },
+      at-start .pre .3 .stamps,
+      at-start .pre .3 .fresh,
+    )
 
 add-result-6 : tie.Need-add-result-6
-add-result-6 c = omega (arith, c .before .before .before .before .before .before .before .before .before .before .before .before .before .before .before .before .before .before .before .before .before .before .before .before .before .before .pre .0 .limits, at-most _ _ (c .before .before .check-effects .ensures))
+add-result-6 c =
+    let at-check-effects = c .before .before in
+    let at-struct-known2 = at-check-effects .before .before .before .before .before .before .before .before .before .before .before .before in
+    let at-start = at-struct-known2 .before .before .before .before .before .before .before .before .before .before .before .before in
+    omega (arith, at-start .pre .0 .limits, at-most _ _ (at-check-effects .check-effects .ensures))
 
 same-length-4 : tie.Need-same-length-4
 same-length-4 c = search needs
@@ -80,10 +128,22 @@ same-length-6 : tie.Need-same-length-6
 same-length-6 c = search needs
 
 returns-4 : tie.Need-returns-4
-returns-4 c = (
-  subst (λ (n : ℕ). First (middleTables (c .before .before .before .before .before .before .before .before .before .before .before .before .before .before .before .before .before .before .before .before .before .before .before .before .before .before .args .s .now) (c .before .before .before .before .before .before .before .before .before .before .before .before .before .before .before .before .before .before .before .before .before .before .before .before .before .before .args .h)) n) (omega arith) (pass _ _ (c .before .before .before .before .before .before .before .before .before .before .before .before .before .before .before .before .before .before .before .before .before .check-entities .ensures) (c .before .before .before .before .before .before .before .before .before .before .before .before .before .before .before .before .before .before .before .if1 .left) (pass _ _ (c .before .before .before .before .before .before .before .before .before .before .before .before .before .before .before .before .before .check-transitions .ensures .0) (c .before .before .before .before .before .before .before .before .before .before .before .before .before .if2 .left) (pass _ _ (c .before .before .before .before .before .before .before .before .before .before .before .check-operations .ensures .0) (c .before .before .before .before .before .before .before .if3 .left) (last-one _ (c .before .before .check-effects .ensures))))),
-  λ l. c .before .before .before .before .before .before .before .before .before .before .before .check-operations .ensures .1 (c .before .before .before .before .before .before .before .if3 .left),
-)
+returns-4 c =
+    let at-check-effects = c .before .before in
+    let at-if3 = at-check-effects .before .before .before .before .before in
+    let at-check-operations = at-if3 .before .before .before .before in
+    let at-if2 = at-check-operations .before .before in
+    let at-check-transitions = at-if2 .before .before .before .before in
+    let at-if1 = at-check-transitions .before .before in
+    let at-check-entities = at-if1 .before .before in
+    let at-start = at-check-entities .before .before .before .before .before in (
+      subst (λ (n : ℕ). First (middleTables (at-start .args .s .now) (at-start .args .h)) n) (omega arith)
+          (pass _ _ (at-check-entities .check-entities .ensures) (at-if1 .if1 .left)
+          (pass _ _ (at-check-transitions .check-transitions .ensures .0) (at-if2 .if2 .left)
+          (pass _ _ (at-check-operations .check-operations .ensures .0) (at-if3 .if3 .left)
+          (last-one _ (at-check-effects .check-effects .ensures))))),
+      λ l. at-check-operations .check-operations .ensures .1 (at-if3 .if3 .left),
+    )
 
 pub middle-on-spec : {M : Type 1} → statement M
 middle-on-spec =

@@ -17,35 +17,73 @@ first-operation-requires : tie.Need-first-operation-requires Inv-loop μ-loop
 first-operation-requires c κs = search needs
 
 loop-holds : tie.Need-loop-holds Inv-loop μ-loop
-loop-holds c = set-out _ _ _ _ (c .before .before .before .pre .1) (c .before .before .before .pre .2)
+loop-holds c =
+    let at-start = c .before .before .before in
+    set-out _ _ _ _ (at-start .pre .1) (at-start .pre .2)
 
 add-number : tie.Need-add-number Inv-loop μ-loop
-add-number c = omega (arith, c .before .before .before .before .before .pre .0 .sized .limits, c .before .before .before .before .before .pre .0 .sized .long, c .before .before .first-operation .ensures)
+add-number c =
+    let at-first-operation = c .before .before in
+    let at-start = at-first-operation .before .before .before in
+    omega (arith, at-start .pre .0 .sized .limits, at-start .pre .0 .sized .long, at-first-operation .first-operation .ensures)
 
 number-requires : tie.Need-number-requires Inv-loop μ-loop
-number-requires c κs = (omega arith, omega (arith, c .before .before .before .before .before .pre .0 .sized .limits, c .before .before .before .before .before .pre .0 .sized .long, c .before .before .first-operation .ensures))
+number-requires c κs =
+    let at-first-operation = c .before .before in
+    let at-start = at-first-operation .before .before .before in
+    (omega arith, omega (arith, at-start .pre .0 .sized .limits, at-start .pre .0 .sized .long, at-first-operation .first-operation .ensures))
 
 add-end : tie.Need-add-end Inv-loop μ-loop
-add-end c = omega (arith, end-inside _ _ _ _ _ _ (c .before .before .before .before .before .before .pre .0) (c .before .before .loop .inv) (c .before .loop-test .taken) (c .before .before .before .first-operation .ensures) (c .number .ensures), c .before .before .before .before .before .before .pre .0 .sized .limits .effects)
+add-end c =
+    let at-loop = c .before .before in
+    let at-first-operation = at-loop .before in
+    let at-start = at-first-operation .before .before .before in
+    omega (
+      arith,
+      end-inside _ _ _ _ _ _ (at-start .pre .0) (at-loop .loop .inv) (c .before .loop-test .taken) (at-first-operation .first-operation .ensures)
+          (c .number .ensures),
+      at-start .pre .0 .sized .limits .effects,
+    )
 
 add-number-2 : tie.Need-add-number-2 Inv-loop μ-loop
-add-number-2 c = omega (arith, c .before .before .before .before .before .before .pre .0 .sized .limits, c .before .before .before .before .before .before .pre .0 .sized .long, c .before .before .before .first-operation .ensures)
+add-number-2 c =
+    let at-first-operation = c .before .before .before in
+    let at-start = at-first-operation .before .before .before in
+    omega (arith, at-start .pre .0 .sized .limits, at-start .pre .0 .sized .long, at-first-operation .first-operation .ensures)
 
 number-requires-2 : tie.Need-number-requires-2 Inv-loop μ-loop
-number-requires-2 c κs = (omega arith, omega (arith, c .before .before .before .before .before .before .pre .0 .sized .limits, c .before .before .before .before .before .before .pre .0 .sized .long, c .before .before .before .first-operation .ensures))
+number-requires-2 c κs =
+    let at-first-operation = c .before .before .before in
+    let at-start = at-first-operation .before .before .before in
+    (omega arith, omega (arith, at-start .pre .0 .sized .limits, at-start .pre .0 .sized .long, at-first-operation .first-operation .ensures))
 
 check-group-requires : tie.Need-check-group-requires Inv-loop μ-loop
-check-group-requires c κs = (
-  c .before .before .before .before .before .before .before .before .pre .0,
-  group _ _ _ _ _ _ (c .before .before .before .before .before .before .before .before .pre .0) (c .before .before .before .before .loop .inv) (c .before .before .before .loop-test .taken) (c .before .before .before .before .before .first-operation .ensures) (c .before .before .number .ensures) (c .before .number2 .ensures),
-  lent _ _ _ _ _ _ (c .before .before .before .before .before .before .before .before .pre .0) (c .before .before .before .before .loop .inv) (c .before .before .before .loop-test .taken) (c .before .before .before .before .before .first-operation .ensures) (c .before .before .number .ensures),
-)
+check-group-requires c κs =
+    let at-number = c .before .before in
+    let at-loop-test = at-number .before in
+    let at-loop = at-loop-test .before in
+    let at-first-operation = at-loop .before in
+    let at-start = at-first-operation .before .before .before in (
+      at-start .pre .0,
+      group _ _ _ _ _ _ (at-start .pre .0) (at-loop .loop .inv) (at-loop-test .loop-test .taken) (at-first-operation .first-operation .ensures)
+          (at-number .number .ensures) (c .before .number2 .ensures),
+      lent _ _ _ _ _ _ (at-start .pre .0) (at-loop .loop .inv) (at-loop-test .loop-test .taken) (at-first-operation .first-operation .ensures)
+          (at-number .number .ensures),
+    )
 
 same-length : tie.Need-same-length Inv-loop μ-loop
 same-length c = search needs
 
 returns : tie.Need-returns Inv-loop μ-loop
-returns c = found _ _ _ _ _ _ (c .before .before .before .before .before .before .before .before .before .before .before .before .pre .0) (c .before .before .before .before .before .before .before .before .loop .inv) (c .before .before .before .before .before .before .before .loop-test .taken) (c .before .before .before .before .before .before .before .before .before .first-operation .ensures) (c .before .before .before .before .before .before .number .ensures) (c .before .before .before .check-group .ensures) (c .if1 .taken)
+returns c =
+    let at-check-group = c .before .before .before in
+    let at-number = at-check-group .before .before .before in
+    let at-loop-test = at-number .before in
+    let at-loop = at-loop-test .before in
+    let at-first-operation = at-loop .before in
+    let at-start = at-first-operation .before .before .before in
+    found _ _ _ _ _ _ (at-start .pre .0) (at-loop .loop .inv) (at-loop-test .loop-test .taken) (at-first-operation .first-operation .ensures)
+    (at-number .number .ensures) (at-check-group .check-group .ensures) (c .if1 .taken)
 
 add-o : tie.Need-add-o Inv-loop μ-loop
 add-o c = search needs
@@ -54,13 +92,23 @@ loop-less : tie.Need-loop-less Inv-loop μ-loop
 loop-less c = search needs
 
 loop-again : tie.Need-loop-again Inv-loop μ-loop
-loop-again c = onward _ _ _ _ _ _ (c .before .before .before .before .before .before .before .before .before .before .before .before .pre .0) (c .before .before .before .before .before .before .before .before .loop .inv) (c .before .before .before .before .before .before .before .loop-test .taken) (c .before .before .before .before .before .before .before .before .before .first-operation .ensures) (c .before .before .before .before .before .before .number .ensures) (c .before .before .before .check-group .ensures) (c .if1 .left)
+loop-again c =
+    let at-check-group = c .before .before .before in
+    let at-number = at-check-group .before .before .before in
+    let at-loop-test = at-number .before in
+    let at-loop = at-loop-test .before in
+    let at-first-operation = at-loop .before in
+    let at-start = at-first-operation .before .before .before in
+    onward _ _ _ _ _ _ (at-start .pre .0) (at-loop .loop .inv) (at-loop-test .loop-test .taken) (at-first-operation .first-operation .ensures)
+    (at-number .number .ensures) (at-check-group .check-group .ensures) (c .if1 .left)
 
 same-length-2 : tie.Need-same-length-2 Inv-loop μ-loop
 same-length-2 c = c .before .loop .inv .seen .long
 
 returns-2 : tie.Need-returns-2 Inv-loop μ-loop
-returns-2 c = arrived _ _ _ _ _ _ (c .before .before .before .before .before .pre .0) (c .before .loop .inv) (c .loop-test .left)
+returns-2 c =
+    let at-start = c .before .before .before .before .before in
+    arrived _ _ _ _ _ _ (at-start .pre .0) (c .before .loop .inv) (c .loop-test .left)
 
 pub check-effects-spec : {M : Type 1} → statement M
 check-effects-spec =

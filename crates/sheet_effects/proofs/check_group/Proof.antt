@@ -20,72 +20,251 @@ first-effect-requires : tie.Need-first-effect-requires Inv-loop μ-loop
 first-effect-requires c κs = search needs
 
 loop-holds : tie.Need-loop-holds Inv-loop μ-loop
-loop-holds c = begin _ _ _ _ _ _ (omega (arith, c .before .before .before .pre .1)) (c .before .before .before .pre .2)
+loop-holds c =
+    let at-start = c .before .before .before in
+    begin _ _ _ _ _ _ (omega (arith, at-start .pre .1)) (at-start .pre .2)
 
 add-record-at : tie.Need-add-record-at Inv-loop μ-loop
-add-record-at c = omega (arith, inside _ _ _ _ _ _ _ _ _ _ (c .before .before .before .before .before .pre .0) (c .before .before .before .before .before .pre .1) (c .before .loop .inv) (c .loop-test .taken), c .before .before .before .before .before .pre .0 .sized .limits, c .before .before .before .before .before .pre .0 .sized .long, c .before .before .first-effect .ensures)
+add-record-at c =
+    let at-first-effect = c .before .before in
+    let at-start = at-first-effect .before .before .before in
+    omega (
+      arith,
+      inside _ _ _ _ _ _ _ _ _ _ (at-start .pre .0) (at-start .pre .1) (c .before .loop .inv) (c .loop-test .taken),
+      at-start .pre .0 .sized .limits,
+      at-start .pre .0 .sized .long,
+      at-first-effect .first-effect .ensures,
+    )
 
 record-at-requires : tie.Need-record-at-requires Inv-loop μ-loop
-record-at-requires c κs = omega (arith, inside _ _ _ _ _ _ _ _ _ _ (c .before .before .before .before .before .pre .0) (c .before .before .before .before .before .pre .1) (c .before .loop .inv) (c .loop-test .taken), c .before .before .before .before .before .pre .0 .sized .limits, c .before .before .before .before .before .pre .0 .sized .long, c .before .before .first-effect .ensures)
+record-at-requires c κs =
+    let at-first-effect = c .before .before in
+    let at-start = at-first-effect .before .before .before in
+    omega (
+      arith,
+      inside _ _ _ _ _ _ _ _ _ _ (at-start .pre .0) (at-start .pre .1) (c .before .loop .inv) (c .loop-test .taken),
+      at-start .pre .0 .sized .limits,
+      at-start .pre .0 .sized .long,
+      at-first-effect .first-effect .ensures,
+    )
 
 add-good-outcome : tie.Need-add-good-outcome Inv-loop μ-loop
-add-good-outcome c = omega (arith, inside _ _ _ _ _ _ _ _ _ _ (c .before .before .before .before .before .before .pre .0) (c .before .before .before .before .before .before .pre .1) (c .before .before .loop .inv) (c .before .loop-test .taken), c .before .before .before .before .before .before .pre .0 .sized .limits .effects)
+add-good-outcome c =
+    let at-loop = c .before .before in
+    let at-start = at-loop .before .before .before .before in
+    omega (
+      arith,
+      inside _ _ _ _ _ _ _ _ _ _ (at-start .pre .0) (at-start .pre .1) (at-loop .loop .inv) (c .before .loop-test .taken),
+      at-start .pre .0 .sized .limits .effects,
+    )
 
 good-outcome-requires : tie.Need-good-outcome-requires Inv-loop μ-loop
 good-outcome-requires c κs = c .before .before .loop .inv .small
 
 good-change-requires : tie.Need-good-change-requires Inv-loop μ-loop
-good-change-requires c κs = c .before .before .before .before .before .before .before .pre .0 .sized
+good-change-requires c κs =
+    let at-start = c .before .before .before .before .before .before .before in
+    at-start .pre .0 .sized
 
 unused-requires : tie.Need-unused-requires Inv-loop μ-loop
 unused-requires c κs = search needs
 
 same-length : tie.Need-same-length Inv-loop μ-loop
-same-length c = c .before .before .before .before .before .before .loop .inv .seen .long
+same-length c =
+    let at-loop = c .before .before .before .before .before .before in
+    at-loop .loop .inv .seen .long
 
 returns : tie.Need-returns Inv-loop μ-loop
-returns c = stopped (c .before .before .before .before .before .before .loop .inv) (c .before .before .before .before .before .loop-test .taken) (stop-first _ _ _ _ _ _ _ _ _ _ (c .before .before .before .before .before .before .before .before .before .before .pre .0) (c .before .before .before .before .before .before .before .before .before .before .pre .1) (c .before .before .before .before .before .before .loop .inv) (c .before .before .before .before .before .loop-test .taken) (c .before .before .before .before .before .before .before .first-effect .ensures) (c .before .before .before .before .record-at .ensures) (c .before .before .good-change .ensures) (c .before .unused .ensures) (c .before .before .before .good-outcome .ensures) (not-flip _ (c .if1 .taken)))
+returns c =
+    let at-good-change = c .before .before in
+    let at-good-outcome = at-good-change .before in
+    let at-record-at = at-good-outcome .before in
+    let at-loop-test = at-record-at .before in
+    let at-loop = at-loop-test .before in
+    let at-first-effect = at-loop .before in
+    let at-start = at-first-effect .before .before .before in
+    stopped (at-loop .loop .inv) (at-loop-test .loop-test .taken)
+    (stop-first _ _ _ _ _ _ _ _ _ _ (at-start .pre .0) (at-start .pre .1) (at-loop .loop .inv) (at-loop-test .loop-test .taken)
+    (at-first-effect .first-effect .ensures) (at-record-at .record-at .ensures) (at-good-change .good-change .ensures) (c .before .unused .ensures)
+    (at-good-outcome .good-outcome .ensures) (not-flip _ (c .if1 .taken)))
 
 mul-stamp : tie.Need-mul-stamp Inv-loop μ-loop
-mul-stamp c = omega (arith, c .before .before .before .before .before .before .before .before .before .before .pre .1 .here, c .before .before .before .before .before .before .before .before .before .before .pre .0 .sized .limits .operations)
+mul-stamp c =
+    let at-start = c .before .before .before .before .before .before .before .before .before .before in
+    omega (arith, at-start .pre .1 .here, at-start .pre .0 .sized .limits .operations)
 
 add-stamp : tie.Need-add-stamp Inv-loop μ-loop
-add-stamp c = omega (arith, c .before .before .before .before .before .before .before .before .before .before .before .pre .1 .here, c .before .before .before .before .before .before .before .before .before .before .before .pre .0 .sized .limits .operations, few _ _ _ _ _ _ _ _ _ _ (c .before .before .before .before .before .before .before .before .before .before .before .pre .0) (c .before .before .before .before .before .before .before .before .before .before .before .pre .1) (c .before .before .before .before .before .before .before .loop .inv) (c .before .before .before .before .before .before .loop-test .taken) (c .before .before .before .before .before .before .before .before .first-effect .ensures) (c .before .before .before .before .before .record-at .ensures) (c .before .before .before .good-change .ensures) (c .before .before .unused .ensures) (c .before .before .before .before .good-outcome .ensures) (not-false _ (c .before .if1 .left)))
+add-stamp c =
+    let at-unused = c .before .before in
+    let at-good-change = at-unused .before in
+    let at-good-outcome = at-good-change .before in
+    let at-record-at = at-good-outcome .before in
+    let at-loop-test = at-record-at .before in
+    let at-loop = at-loop-test .before in
+    let at-first-effect = at-loop .before in
+    let at-start = at-first-effect .before .before .before in
+    omega (
+      arith,
+      at-start .pre .1 .here,
+      at-start .pre .0 .sized .limits .operations,
+      few _ _ _ _ _ _ _ _ _ _ (at-start .pre .0) (at-start .pre .1) (at-loop .loop .inv) (at-loop-test .loop-test .taken)
+          (at-first-effect .first-effect .ensures) (at-record-at .record-at .ensures) (at-good-change .good-change .ensures)
+          (at-unused .unused .ensures) (at-good-outcome .good-outcome .ensures) (not-false _ (c .before .if1 .left)),
+    )
 
 add-stamp-2 : tie.Need-add-stamp-2 Inv-loop μ-loop
-add-stamp-2 c = omega (arith, c .before .before .before .before .before .before .before .before .before .before .before .pre .1 .here, c .before .before .before .before .before .before .before .before .before .before .before .pre .0 .sized .limits .operations, few _ _ _ _ _ _ _ _ _ _ (c .before .before .before .before .before .before .before .before .before .before .before .pre .0) (c .before .before .before .before .before .before .before .before .before .before .before .pre .1) (c .before .before .before .before .before .before .before .loop .inv) (c .before .before .before .before .before .before .loop-test .taken) (c .before .before .before .before .before .before .before .before .first-effect .ensures) (c .before .before .before .before .before .record-at .ensures) (c .before .before .before .good-change .ensures) (c .before .before .unused .ensures) (c .before .before .before .before .good-outcome .ensures) (not-false _ (c .before .if1 .left)))
+add-stamp-2 c =
+    let at-unused = c .before .before in
+    let at-good-change = at-unused .before in
+    let at-good-outcome = at-good-change .before in
+    let at-record-at = at-good-outcome .before in
+    let at-loop-test = at-record-at .before in
+    let at-loop = at-loop-test .before in
+    let at-first-effect = at-loop .before in
+    let at-start = at-first-effect .before .before .before in
+    omega (
+      arith,
+      at-start .pre .1 .here,
+      at-start .pre .0 .sized .limits .operations,
+      few _ _ _ _ _ _ _ _ _ _ (at-start .pre .0) (at-start .pre .1) (at-loop .loop .inv) (at-loop-test .loop-test .taken)
+          (at-first-effect .first-effect .ensures) (at-record-at .record-at .ensures) (at-good-change .good-change .ensures)
+          (at-unused .unused .ensures) (at-good-outcome .good-outcome .ensures) (not-false _ (c .before .if1 .left)),
+    )
 
 fresh-requires : tie.Need-fresh-requires Inv-loop μ-loop
 fresh-requires c κs =
-    let z = flagged _ _ _ _ _ _ _ _ _ _ (c .before .before .before .before .before .before .before .before .before .before .before .before .pre .0) (c .before .before .before .before .before .before .before .before .before .before .before .before .pre .1) (c .before .before .before .before .before .before .before .before .loop .inv) (c .before .before .before .before .before .before .before .loop-test .taken) (c .before .before .before .before .before .before .before .before .before .first-effect .ensures) (c .before .before .before .before .before .before .record-at .ensures) (c .before .before .before .before .good-change .ensures) (c .before .before .before .unused .ensures) (c .before .before .before .before .before .good-outcome .ensures) (not-false _ (c .before .before .if1 .left)) in
-    (omega (arith, c .before .before .before .before .before .before .before .before .before .before .before .before .pre .0 .sized .limits .entities), omega (arith, c .before .before .before .before .before .before .before .before .before .before .before .before .pre .0 .declared .room), omega (arith, c .before .before .before .before .before .before .before .before .loop .inv .seen .long, c .before .before .before .before .before .before .before .before .loop .inv .seen .room))
+    let at-if1 = c .before .before in
+    let at-unused = at-if1 .before in
+    let at-good-change = at-unused .before in
+    let at-good-outcome = at-good-change .before in
+    let at-record-at = at-good-outcome .before in
+    let at-loop-test = at-record-at .before in
+    let at-loop = at-loop-test .before in
+    let at-first-effect = at-loop .before in
+    let at-start = at-first-effect .before .before .before in
+    let z = flagged _ _ _ _ _ _ _ _ _ _ (at-start .pre .0) (at-start .pre .1) (at-loop .loop .inv) (at-loop-test .loop-test .taken)
+    (at-first-effect .first-effect .ensures) (at-record-at .record-at .ensures) (at-good-change .good-change .ensures) (at-unused .unused .ensures)
+    (at-good-outcome .good-outcome .ensures) (not-false _ (at-if1 .if1 .left)) in (
+      omega (arith, at-start .pre .0 .sized .limits .entities),
+      omega (arith, at-start .pre .0 .declared .room),
+      omega (arith, at-loop .loop .inv .seen .long, at-loop .loop .inv .seen .room),
+    )
 
 same-length-2 : tie.Need-same-length-2 Inv-loop μ-loop
-same-length-2 c = c .before .before .before .before .before .before .before .before .before .before .loop .inv .seen .long
+same-length-2 c =
+    let at-loop = c .before .before .before .before .before .before .before .before .before .before in
+    at-loop .loop .inv .seen .long
 
 returns-2 : tie.Need-returns-2 Inv-loop μ-loop
-returns-2 c = stopped (c .before .before .before .before .before .before .before .before .before .before .loop .inv) (c .before .before .before .before .before .before .before .before .before .loop-test .taken) (stop-second _ _ _ _ _ _ _ _ _ _ (c .before .before .before .before .before .before .before .before .before .before .before .before .before .before .pre .0) (c .before .before .before .before .before .before .before .before .before .before .before .before .before .before .pre .1) (c .before .before .before .before .before .before .before .before .before .before .loop .inv) (c .before .before .before .before .before .before .before .before .before .loop-test .taken) (c .before .before .before .before .before .before .before .before .before .before .before .first-effect .ensures) (c .before .before .before .before .before .before .before .before .record-at .ensures) (c .before .before .before .before .before .before .good-change .ensures) (c .before .before .before .before .before .unused .ensures) (c .before .before .before .before .before .before .before .good-outcome .ensures) (not-false _ (c .before .before .before .before .if1 .left)) refl (c .before .fresh .ensures) (not-flip _ (c .if2 .taken)))
+returns-2 c =
+    let at-if1 = c .before .before .before .before in
+    let at-unused = at-if1 .before in
+    let at-good-change = at-unused .before in
+    let at-good-outcome = at-good-change .before in
+    let at-record-at = at-good-outcome .before in
+    let at-loop-test = at-record-at .before in
+    let at-loop = at-loop-test .before in
+    let at-first-effect = at-loop .before in
+    let at-start = at-first-effect .before .before .before in
+    stopped (at-loop .loop .inv) (at-loop-test .loop-test .taken)
+    (stop-second _ _ _ _ _ _ _ _ _ _ (at-start .pre .0) (at-start .pre .1) (at-loop .loop .inv) (at-loop-test .loop-test .taken)
+    (at-first-effect .first-effect .ensures) (at-record-at .record-at .ensures) (at-good-change .good-change .ensures) (at-unused .unused .ensures)
+    (at-good-outcome .good-outcome .ensures) (not-false _ (at-if1 .if1 .left)) refl (c .before .fresh .ensures) (not-flip _ (c .if2 .taken)))
 
 mul-q : tie.Need-mul-q Inv-loop μ-loop
-mul-q c = let z = flagged _ _ _ _ _ _ _ _ _ _ (c .before .before .before .before .before .before .before .before .before .before .before .before .before .before .before .pre .0) (c .before .before .before .before .before .before .before .before .before .before .before .before .before .before .before .pre .1) (c .before .before .before .before .before .before .before .before .before .before .before .loop .inv) (c .before .before .before .before .before .before .before .before .before .before .loop-test .taken) (c .before .before .before .before .before .before .before .before .before .before .before .before .first-effect .ensures) (c .before .before .before .before .before .before .before .before .before .record-at .ensures) (c .before .before .before .before .before .before .before .good-change .ensures) (c .before .before .before .before .before .before .unused .ensures) (c .before .before .before .before .before .before .before .before .good-outcome .ensures) (not-false _ (c .before .before .before .before .before .if1 .left)) in omega (arith, c .before .before .before .before .before .before .before .before .before .before .before .before .before .before .before .pre .0 .sized .limits .entities)
+mul-q c =
+    let at-if1 = c .before .before .before .before .before in
+    let at-unused = at-if1 .before in
+    let at-good-change = at-unused .before in
+    let at-good-outcome = at-good-change .before in
+    let at-record-at = at-good-outcome .before in
+    let at-loop-test = at-record-at .before in
+    let at-loop = at-loop-test .before in
+    let at-first-effect = at-loop .before in
+    let at-start = at-first-effect .before .before .before in
+    let z = flagged _ _ _ _ _ _ _ _ _ _ (at-start .pre .0) (at-start .pre .1) (at-loop .loop .inv) (at-loop-test .loop-test .taken)
+    (at-first-effect .first-effect .ensures) (at-record-at .record-at .ensures) (at-good-change .good-change .ensures) (at-unused .unused .ensures)
+    (at-good-outcome .good-outcome .ensures) (not-false _ (at-if1 .if1 .left)) in
+    omega (arith, at-start .pre .0 .sized .limits .entities)
 
 add-q : tie.Need-add-q Inv-loop μ-loop
-add-q c = let z = flagged _ _ _ _ _ _ _ _ _ _ (c .before .before .before .before .before .before .before .before .before .before .before .before .before .before .before .before .pre .0) (c .before .before .before .before .before .before .before .before .before .before .before .before .before .before .before .before .pre .1) (c .before .before .before .before .before .before .before .before .before .before .before .before .loop .inv) (c .before .before .before .before .before .before .before .before .before .before .before .loop-test .taken) (c .before .before .before .before .before .before .before .before .before .before .before .before .before .first-effect .ensures) (c .before .before .before .before .before .before .before .before .before .before .record-at .ensures) (c .before .before .before .before .before .before .before .before .good-change .ensures) (c .before .before .before .before .before .before .before .unused .ensures) (c .before .before .before .before .before .before .before .before .before .good-outcome .ensures) (not-false _ (c .before .before .before .before .before .before .if1 .left)) in omega (arith, c .before .before .before .before .before .before .before .before .before .before .before .before .before .before .before .before .pre .0 .sized .limits .entities)
+add-q c =
+    let at-if1 = c .before .before .before .before .before .before in
+    let at-unused = at-if1 .before in
+    let at-good-change = at-unused .before in
+    let at-good-outcome = at-good-change .before in
+    let at-record-at = at-good-outcome .before in
+    let at-loop-test = at-record-at .before in
+    let at-loop = at-loop-test .before in
+    let at-first-effect = at-loop .before in
+    let at-start = at-first-effect .before .before .before in
+    let z = flagged _ _ _ _ _ _ _ _ _ _ (at-start .pre .0) (at-start .pre .1) (at-loop .loop .inv) (at-loop-test .loop-test .taken)
+    (at-first-effect .first-effect .ensures) (at-record-at .record-at .ensures) (at-good-change .good-change .ensures) (at-unused .unused .ensures)
+    (at-good-outcome .good-outcome .ensures) (not-false _ (at-if1 .if1 .left)) in
+    omega (arith, at-start .pre .0 .sized .limits .entities)
 
 mul-seen : tie.Need-mul-seen Inv-loop μ-loop
-mul-seen c = let z = flagged _ _ _ _ _ _ _ _ _ _ (c .before .before .before .before .before .before .before .before .before .before .before .before .before .before .before .before .pre .0) (c .before .before .before .before .before .before .before .before .before .before .before .before .before .before .before .before .pre .1) (c .before .before .before .before .before .before .before .before .before .before .before .before .loop .inv) (c .before .before .before .before .before .before .before .before .before .before .before .loop-test .taken) (c .before .before .before .before .before .before .before .before .before .before .before .before .before .first-effect .ensures) (c .before .before .before .before .before .before .before .before .before .before .record-at .ensures) (c .before .before .before .before .before .before .before .before .good-change .ensures) (c .before .before .before .before .before .before .before .unused .ensures) (c .before .before .before .before .before .before .before .before .before .good-outcome .ensures) (not-false _ (c .before .before .before .before .before .before .if1 .left)) in omega (arith, c .before .before .before .before .before .before .before .before .before .before .before .before .before .before .before .before .pre .0 .sized .limits .entities)
+mul-seen c =
+    let at-if1 = c .before .before .before .before .before .before in
+    let at-unused = at-if1 .before in
+    let at-good-change = at-unused .before in
+    let at-good-outcome = at-good-change .before in
+    let at-record-at = at-good-outcome .before in
+    let at-loop-test = at-record-at .before in
+    let at-loop = at-loop-test .before in
+    let at-first-effect = at-loop .before in
+    let at-start = at-first-effect .before .before .before in
+    let z = flagged _ _ _ _ _ _ _ _ _ _ (at-start .pre .0) (at-start .pre .1) (at-loop .loop .inv) (at-loop-test .loop-test .taken)
+    (at-first-effect .first-effect .ensures) (at-record-at .record-at .ensures) (at-good-change .good-change .ensures) (at-unused .unused .ensures)
+    (at-good-outcome .good-outcome .ensures) (not-false _ (at-if1 .if1 .left)) in
+    omega (arith, at-start .pre .0 .sized .limits .entities)
 
 slice-write-seen : tie.Need-slice-write-seen Inv-loop μ-loop
-slice-write-seen c = let z = flagged _ _ _ _ _ _ _ _ _ _ (c .before .before .before .before .before .before .before .before .before .before .before .before .before .before .before .before .pre .0) (c .before .before .before .before .before .before .before .before .before .before .before .before .before .before .before .before .pre .1) (c .before .before .before .before .before .before .before .before .before .before .before .before .loop .inv) (c .before .before .before .before .before .before .before .before .before .before .before .loop-test .taken) (c .before .before .before .before .before .before .before .before .before .before .before .before .before .first-effect .ensures) (c .before .before .before .before .before .before .before .before .before .before .record-at .ensures) (c .before .before .before .before .before .before .before .before .good-change .ensures) (c .before .before .before .before .before .before .before .unused .ensures) (c .before .before .before .before .before .before .before .before .before .good-outcome .ensures) (not-false _ (c .before .before .before .before .before .before .if1 .left)) in omega (arith, c .before .before .before .before .before .before .before .before .before .before .before .before .loop .inv .seen .long, c .before .before .before .before .before .before .before .before .before .before .before .before .loop .inv .seen .room, c .before .before .before .before .before .before .before .before .before .before .before .before .before .before .before .before .pre .0 .sized .limits .entities)
+slice-write-seen c =
+    let at-if1 = c .before .before .before .before .before .before in
+    let at-unused = at-if1 .before in
+    let at-good-change = at-unused .before in
+    let at-good-outcome = at-good-change .before in
+    let at-record-at = at-good-outcome .before in
+    let at-loop-test = at-record-at .before in
+    let at-loop = at-loop-test .before in
+    let at-first-effect = at-loop .before in
+    let at-start = at-first-effect .before .before .before in
+    let z = flagged _ _ _ _ _ _ _ _ _ _ (at-start .pre .0) (at-start .pre .1) (at-loop .loop .inv) (at-loop-test .loop-test .taken)
+    (at-first-effect .first-effect .ensures) (at-record-at .record-at .ensures) (at-good-change .good-change .ensures) (at-unused .unused .ensures)
+    (at-good-outcome .good-outcome .ensures) (not-false _ (at-if1 .if1 .left)) in
+    omega (arith, at-loop .loop .inv .seen .long, at-loop .loop .inv .seen .room, at-start .pre .0 .sized .limits .entities)
 
 add-e : tie.Need-add-e Inv-loop μ-loop
-add-e c = omega (arith, inside _ _ _ _ _ _ _ _ _ _ (c .before .before .before .before .before .before .before .before .before .before .before .before .before .before .before .before .pre .0) (c .before .before .before .before .before .before .before .before .before .before .before .before .before .before .before .before .pre .1) (c .before .before .before .before .before .before .before .before .before .before .before .before .loop .inv) (c .before .before .before .before .before .before .before .before .before .before .before .loop-test .taken), c .before .before .before .before .before .before .before .before .before .before .before .before .before .before .before .before .pre .0 .sized .limits .effects)
+add-e c =
+    let at-loop-test = c .before .before .before .before .before .before .before .before .before .before .before in
+    let at-loop = at-loop-test .before in
+    let at-start = at-loop .before .before .before .before in
+    omega (
+      arith,
+      inside _ _ _ _ _ _ _ _ _ _ (at-start .pre .0) (at-start .pre .1) (at-loop .loop .inv) (at-loop-test .loop-test .taken),
+      at-start .pre .0 .sized .limits .effects,
+    )
 
 loop-less : tie.Need-loop-less Inv-loop μ-loop
 loop-less c = search needs
 
 loop-again : tie.Need-loop-again Inv-loop μ-loop
-loop-again c = again _ _ _ _ _ _ _ _ _ _ (c .before .before .before .before .before .before .before .before .before .before .before .before .before .before .before .before .pre .0) (c .before .before .before .before .before .before .before .before .before .before .before .before .before .before .before .before .pre .1) (c .before .before .before .before .before .before .before .before .before .before .before .before .loop .inv) (c .before .before .before .before .before .before .before .before .before .before .before .loop-test .taken) (c .before .before .before .before .before .before .before .before .before .before .before .before .before .first-effect .ensures) (c .before .before .before .before .before .before .before .before .before .before .record-at .ensures) (c .before .before .before .before .before .before .before .before .good-change .ensures) (c .before .before .before .before .before .before .before .unused .ensures) (c .before .before .before .before .before .before .before .before .before .good-outcome .ensures) (not-false _ (c .before .before .before .before .before .before .if1 .left)) refl (c .before .before .before .fresh .ensures) (not-false _ (c .before .before .if2 .left))
+loop-again c =
+    let at-if2 = c .before .before in
+    let at-fresh = at-if2 .before in
+    let at-if1 = at-fresh .before .before .before in
+    let at-unused = at-if1 .before in
+    let at-good-change = at-unused .before in
+    let at-good-outcome = at-good-change .before in
+    let at-record-at = at-good-outcome .before in
+    let at-loop-test = at-record-at .before in
+    let at-loop = at-loop-test .before in
+    let at-first-effect = at-loop .before in
+    let at-start = at-first-effect .before .before .before in
+    again _ _ _ _ _ _ _ _ _ _ (at-start .pre .0) (at-start .pre .1) (at-loop .loop .inv) (at-loop-test .loop-test .taken)
+    (at-first-effect .first-effect .ensures) (at-record-at .record-at .ensures) (at-good-change .good-change .ensures) (at-unused .unused .ensures)
+    (at-good-outcome .good-outcome .ensures) (not-false _ (at-if1 .if1 .left)) refl (at-fresh .fresh .ensures) (not-false _ (at-if2 .if2 .left))
 
 same-length-3 : tie.Need-same-length-3 Inv-loop μ-loop
 same-length-3 c = c .before .loop .inv .seen .long

@@ -22,7 +22,9 @@ shared-slice-read-result-2 : tie.Need-shared-slice-read-result-2
 shared-slice-read-result-2 c = search needs
 
 returns : tie.Need-returns
-returns c = rw (c .before .before .before .before .place-of .ensures)
+returns c =
+    let at-place-of = c .before .before .before .before in
+    rw (at-place-of .place-of .ensures)
 
 pub fresh-spec : {M : Type 1} → statement M
 fresh-spec =

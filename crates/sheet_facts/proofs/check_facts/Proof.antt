@@ -45,13 +45,34 @@ loop-less : tie.Need-loop-less Inv-loop μ-loop
 loop-less c = search needs
 
 loop-again : tie.Need-loop-again Inv-loop μ-loop
-loop-again c = (omega arith, again _ _ _ (c .before .before .before .before .before .before .before .before .before .before .loop .inv .1) (c .before .before .before .before .before .before .before .before .record-at .ensures) (c .before .before .before .before .before .before .entry .ensures) (c .before .before .before .before .before .good-alone .ensures) (c .before .before .before .before .agrees .ensures) (c .before .before .before .if1 .taken) (c .before .note .ensures))
+loop-again c =
+    let at-if1 = c .before .before .before in
+    let at-agrees = at-if1 .before in
+    let at-good-alone = at-agrees .before in
+    let at-entry = at-good-alone .before in
+    let at-record-at = at-entry .before .before in
+    let at-loop = at-record-at .before .before in (
+      omega arith,
+      again _ _ _ (at-loop .loop .inv .1) (at-record-at .record-at .ensures) (at-entry .entry .ensures) (at-good-alone .good-alone .ensures)
+          (at-agrees .agrees .ensures) (at-if1 .if1 .taken) (c .before .note .ensures),
+    )
 
 returns : tie.Need-returns Inv-loop μ-loop
-returns c = fail-at (goodFact (c .before .before .before .before .before .before .before .before .args .s .now)) _ _ (c .before .before .before .before .before .before .loop-test .taken) (c .before .before .before .before .before .before .before .loop .inv .1 .good) (stop _ _ _ (c .before .before .before .before .before .before .before .loop .inv .1) (c .before .before .before .before .before .record-at .ensures) (c .before .before .before .entry .ensures) (c .before .before .good-alone .ensures) (c .before .agrees .ensures) (c .if1 .left))
+returns c =
+    let at-good-alone = c .before .before in
+    let at-entry = at-good-alone .before in
+    let at-record-at = at-entry .before .before in
+    let at-loop-test = at-record-at .before in
+    let at-loop = at-loop-test .before in
+    let at-start = at-loop .before in
+    fail-at (goodFact (at-start .args .s .now)) _ _ (at-loop-test .loop-test .taken) (at-loop .loop .inv .1 .good)
+    (stop _ _ _ (at-loop .loop .inv .1) (at-record-at .record-at .ensures) (at-entry .entry .ensures) (at-good-alone .good-alone .ensures)
+    (c .before .agrees .ensures) (c .if1 .left))
 
 returns-2 : tie.Need-returns-2 Inv-loop μ-loop
-returns-2 c = fail-none (goodFact (c .before .before .args .s .now)) _ _ (c .before .loop .inv .0) (c .loop-test .left) (c .before .loop .inv .1 .good)
+returns-2 c =
+    let at-start = c .before .before in
+    fail-none (goodFact (at-start .args .s .now)) _ _ (c .before .loop .inv .0) (c .loop-test .left) (c .before .loop .inv .1 .good)
 
 pub check-facts-spec : {M : Type 1} → statement M
 check-facts-spec =

@@ -28,7 +28,26 @@ unused-requires c κs = search needs
 
 returns : tie.Need-returns
 unfolding goodAlone
-returns c = rw (c .unused .ensures, c .before .good-default .ensures, c .before .before .good-set .ensures, c .before .before .before .good-bounds .ensures, back-of (c .before .before .before .before .word3 .result) (c .before .before .before .before .word3 .ok), c .before .before .before .before .word3 .ensures, back-of (c .before .before .before .before .before .word2 .result) (c .before .before .before .before .before .word2 .ok), c .before .before .before .before .before .word2 .ensures, back-of (c .before .before .before .before .before .before .word .result) (c .before .before .before .before .before .before .word .ok), c .before .before .before .before .before .before .word .ensures, c .before .before .before .before .before .before .before .pre .1)
+returns c =
+    let at-good-set = c .before .before in
+    let at-good-bounds = at-good-set .before in
+    let at-word3 = at-good-bounds .before in
+    let at-word2 = at-word3 .before in
+    let at-word = at-word2 .before in
+    let at-start = at-word .before in
+    rw (
+      c .unused .ensures,
+      c .before .good-default .ensures,
+      at-good-set .good-set .ensures,
+      at-good-bounds .good-bounds .ensures,
+      back-of (at-word3 .word3 .result) (at-word3 .word3 .ok),
+      at-word3 .word3 .ensures,
+      back-of (at-word2 .word2 .result) (at-word2 .word2 .ok),
+      at-word2 .word2 .ensures,
+      back-of (at-word .word .result) (at-word .word .ok),
+      at-word .word .ensures,
+      at-start .pre .1,
+    )
 
 pub good-alone-spec : {M : Type 1} → statement M
 good-alone-spec =

@@ -19,7 +19,10 @@ returns : tie.Need-returns
 returns c = rw (eq-eqb _ _ (c .before .if1 .taken))
 
 returns-2 : tie.Need-returns-2
-returns-2 c = rw (eq-eqb _ _ (c .before .if1 .taken)) (sym (set-out (c .before .before .before .args .maxes .now) (c .before .before .before .args .r .w5) (c .before .before .before .args .r .w2) (c .if2 .left)))
+returns-2 c =
+    let at-start = c .before .before .before in
+    rw (eq-eqb _ _ (c .before .if1 .taken))
+    (sym (set-out (at-start .args .maxes .now) (at-start .args .r .w5) (at-start .args .r .w2) (c .if2 .left)))
 
 returns-3 : tie.Need-returns-3
 returns-3 c = rw (ne-eqb _ _ (c .if1 .left))

@@ -9,20 +9,41 @@ first-flow-requires : tie.Need-first-flow-requires
 first-flow-requires c κs = c .before .before .pre .ready .sized .limits
 
 add-number : tie.Need-add-number
-add-number c = let l = left-over _ _ (c .before .before .before .before .args .c) (c .before .before .before .before .args .i) (c .before .before .before .before .pre) (c .before .before .if1 .taken) in omega (arith, c .before .before .before .before .pre .ready .sized .limits, c .before .before .before .before .pre .ready .sized .long, c .before .first-flow .ensures)
+add-number c =
+    let at-if1 = c .before .before in
+    let at-start = at-if1 .before .before in
+    let l = left-over _ _ (at-start .args .c) (at-start .args .i) (at-start .pre) (at-if1 .if1 .taken) in
+    omega (arith, at-start .pre .ready .sized .limits, at-start .pre .ready .sized .long, c .before .first-flow .ensures)
 
 number-requires : tie.Need-number-requires
-number-requires c κs = let l = left-over _ _ (c .before .before .before .before .args .c) (c .before .before .before .before .args .i) (c .before .before .before .before .pre) (c .before .before .if1 .taken) in (omega arith, omega (arith, c .before .before .before .before .pre .ready .sized .limits, c .before .before .before .before .pre .ready .sized .long, c .before .first-flow .ensures))
+number-requires c κs =
+    let at-if1 = c .before .before in
+    let at-start = at-if1 .before .before in
+    let l = left-over _ _ (at-start .args .c) (at-start .args .i) (at-start .pre) (at-if1 .if1 .taken) in
+    (omega arith, omega (arith, at-start .pre .ready .sized .limits, at-start .pre .ready .sized .long, c .before .first-flow .ensures))
 
 add-t8 : tie.Need-add-t8
-add-t8 c = let l = left-over _ _ (c .before .before .before .before .before .before .args .c) (c .before .before .before .before .before .before .args .i) (c .before .before .before .before .before .before .pre) (c .before .before .before .before .if1 .taken) in omega (arith, c .before .before .before .before .before .before .pre .ready .sized .limits, c .before .before .before .before .before .before .pre .ready .sized .long)
+add-t8 c =
+    let at-if1 = c .before .before .before .before in
+    let at-start = at-if1 .before .before in
+    let l = left-over _ _ (at-start .args .c) (at-start .args .i) (at-start .pre) (at-if1 .if1 .taken) in
+    omega (arith, at-start .pre .ready .sized .limits, at-start .pre .ready .sized .long)
 
 add-t9 : tie.Need-add-t9
-add-t9 c = let l = last-inside _ _ (c .before .before .before .before .before .before .before .args .c) (c .before .before .before .before .before .before .before .args .i) (c .before .before .before .before .before .before .before .pre) (c .before .before .before .before .before .if1 .taken) in
-    omega (arith, c .before .before .before .before .before .before .before .pre .ready .sized .limits .steps, rw (c .before .before .before .before .first-flow .ensures) at (c .before .before .number .ensures))
+add-t9 c =
+    let at-number = c .before .before in
+    let at-first-flow = at-number .before .before in
+    let at-if1 = at-first-flow .before in
+    let at-start = at-if1 .before .before in
+    let l = last-inside _ _ (at-start .args .c) (at-start .args .i) (at-start .pre) (at-if1 .if1 .taken) in
+    omega (arith, at-start .pre .ready .sized .limits .steps, rw (at-first-flow .first-flow .ensures) at (at-number .number .ensures))
 
 returns : tie.Need-returns
-returns c = rw (eq-eqb _ _ (c .before .before .before .before .before .if1 .taken), c .before .before .number .ensures, c .before .before .before .before .first-flow .ensures)
+returns c =
+    let at-number = c .before .before in
+    let at-first-flow = at-number .before .before in
+    let at-if1 = at-first-flow .before in
+    rw (eq-eqb _ _ (at-if1 .if1 .taken), at-number .number .ensures, at-first-flow .first-flow .ensures)
 
 returns-2 : tie.Need-returns-2
 returns-2 c = rw (ne-eqb _ _ (c .if1 .left))

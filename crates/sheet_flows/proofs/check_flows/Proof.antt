@@ -19,16 +19,32 @@ first-flow-requires : tie.Need-first-flow-requires Inv-loop μ-loop
 first-flow-requires c κs = c .before .before .pre .0 .limits
 
 add-record-at : tie.Need-add-record-at Inv-loop μ-loop
-add-record-at c = omega (arith, c .before .before .before .pre .0 .limits, c .before .before .before .pre .0 .long, c .first-flow .ensures)
+add-record-at c =
+    let at-start = c .before .before .before in
+    omega (arith, at-start .pre .0 .limits, at-start .pre .0 .long, c .first-flow .ensures)
 
 record-at-requires : tie.Need-record-at-requires Inv-loop μ-loop
-record-at-requires c κs = omega (arith, c .before .before .before .pre .0 .limits, c .before .before .before .pre .0 .long, c .first-flow .ensures)
+record-at-requires c κs =
+    let at-start = c .before .before .before in
+    omega (arith, at-start .pre .0 .limits, at-start .pre .0 .long, c .first-flow .ensures)
 
 unused-requires : tie.Need-unused-requires Inv-loop μ-loop
 unused-requires c κs = search needs
 
 add-sum : tie.Need-add-sum Inv-loop μ-loop
-add-sum c = omega (arith, fits _ _ _ _ (c .before .before .before .before .before .before .before .before .loop .inv) (c .before .before .before .before .before .before .before .loop-test .taken) (c .before .before .before .before .before .before .first-flow .ensures) (c .before .before .before .before .before .record-at .ensures) (c .before .before .unused .ensures) (c .before .before .before .before .before .before .before .before .before .pre .1), c .before .before .before .before .before .before .before .before .before .pre .0 .limits .steps)
+add-sum c =
+    let at-unused = c .before .before in
+    let at-record-at = at-unused .before .before .before in
+    let at-first-flow = at-record-at .before in
+    let at-loop-test = at-first-flow .before in
+    let at-loop = at-loop-test .before in
+    let at-start = at-loop .before in
+    omega (
+      arith,
+      fits _ _ _ _ (at-loop .loop .inv) (at-loop-test .loop-test .taken) (at-first-flow .first-flow .ensures) (at-record-at .record-at .ensures)
+          (at-unused .unused .ensures) (at-start .pre .1),
+      at-start .pre .0 .limits .steps,
+    )
 
 add-k : tie.Need-add-k Inv-loop μ-loop
 add-k c = search needs
@@ -37,10 +53,23 @@ loop-less : tie.Need-loop-less Inv-loop μ-loop
 loop-less c = search needs
 
 loop-again : tie.Need-loop-again Inv-loop μ-loop
-loop-again c = again _ _ _ _ (c .before .before .before .before .before .before .before .before .loop .inv) (c .before .before .before .before .before .before .before .loop-test .taken) (c .before .before .before .before .before .before .first-flow .ensures) (c .before .before .before .before .before .record-at .ensures) (c .before .before .unused .ensures) (c .before .if1 .taken)
+loop-again c =
+    let at-unused = c .before .before in
+    let at-record-at = at-unused .before .before .before in
+    let at-first-flow = at-record-at .before in
+    let at-loop-test = at-first-flow .before in
+    let at-loop = at-loop-test .before in
+    again _ _ _ _ (at-loop .loop .inv) (at-loop-test .loop-test .taken) (at-first-flow .first-flow .ensures) (at-record-at .record-at .ensures)
+    (at-unused .unused .ensures) (c .before .if1 .taken)
 
 returns : tie.Need-returns Inv-loop μ-loop
-returns c = stop _ _ _ _ (c .before .before .before .before .before .before .before .loop .inv) (c .before .before .before .before .before .before .loop-test .taken) (c .before .before .before .before .before .first-flow .ensures) (c .before .before .before .before .record-at .ensures) (c .before .unused .ensures) (c .if1 .left)
+returns c =
+    let at-record-at = c .before .before .before .before in
+    let at-first-flow = at-record-at .before in
+    let at-loop-test = at-first-flow .before in
+    let at-loop = at-loop-test .before in
+    stop _ _ _ _ (at-loop .loop .inv) (at-loop-test .loop-test .taken) (at-first-flow .first-flow .ensures) (at-record-at .record-at .ensures)
+    (c .before .unused .ensures) (c .if1 .left)
 
 returns-2 : tie.Need-returns-2 Inv-loop μ-loop
 returns-2 c = finish _ _ _ _ (c .before .loop .inv) (c .loop-test .left)

@@ -19,10 +19,28 @@ first-route-requires : tie.Need-first-route-requires Inv-loop μ-loop
 first-route-requires c κs = c .before .before .pre .0 .sized .limits
 
 add-record-at : tie.Need-add-record-at Inv-loop μ-loop
-add-record-at c = omega (arith, inside _ _ _ _ _ _ _ (c .before .before .before .pre .0) (c .before .before .before .pre .1) (c .before .before .loop .inv) (c .before .loop-test .taken), c .before .before .before .pre .0 .sized .limits, c .before .before .before .pre .0 .sized .long, c .first-route .ensures)
+add-record-at c =
+    let at-loop = c .before .before in
+    let at-start = at-loop .before in
+    omega (
+      arith,
+      inside _ _ _ _ _ _ _ (at-start .pre .0) (at-start .pre .1) (at-loop .loop .inv) (c .before .loop-test .taken),
+      at-start .pre .0 .sized .limits,
+      at-start .pre .0 .sized .long,
+      c .first-route .ensures,
+    )
 
 record-at-requires : tie.Need-record-at-requires Inv-loop μ-loop
-record-at-requires c κs = omega (arith, inside _ _ _ _ _ _ _ (c .before .before .before .pre .0) (c .before .before .before .pre .1) (c .before .before .loop .inv) (c .before .loop-test .taken), c .before .before .before .pre .0 .sized .limits, c .before .before .before .pre .0 .sized .long, c .first-route .ensures)
+record-at-requires c κs =
+    let at-loop = c .before .before in
+    let at-start = at-loop .before in
+    omega (
+      arith,
+      inside _ _ _ _ _ _ _ (at-start .pre .0) (at-start .pre .1) (at-loop .loop .inv) (c .before .loop-test .taken),
+      at-start .pre .0 .sized .limits,
+      at-start .pre .0 .sized .long,
+      c .first-route .ensures,
+    )
 
 good-route-of-requires : tie.Need-good-route-of-requires Inv-loop μ-loop
 good-route-of-requires c κs = search needs
@@ -34,10 +52,24 @@ loop-less : tie.Need-loop-less Inv-loop μ-loop
 loop-less c = search needs
 
 loop-again : tie.Need-loop-again Inv-loop μ-loop
-loop-again c = again _ _ _ _ _ _ _ (c .before .before .before .before .before .before .pre .0) (c .before .before .before .before .before .before .pre .1) (c .before .before .before .before .before .loop .inv) (c .before .before .before .before .loop-test .taken) (c .before .before .before .first-route .ensures) (c .before .before .record-at .ensures) (c .before .good-route-of .ensures) (c .if1 .taken)
+loop-again c =
+    let at-record-at = c .before .before in
+    let at-first-route = at-record-at .before in
+    let at-loop-test = at-first-route .before in
+    let at-loop = at-loop-test .before in
+    let at-start = at-loop .before in
+    again _ _ _ _ _ _ _ (at-start .pre .0) (at-start .pre .1) (at-loop .loop .inv) (at-loop-test .loop-test .taken)
+    (at-first-route .first-route .ensures) (at-record-at .record-at .ensures) (c .before .good-route-of .ensures) (c .if1 .taken)
 
 returns : tie.Need-returns Inv-loop μ-loop
-returns c = stop _ _ _ _ _ _ _ (c .before .before .before .before .before .before .pre .0) (c .before .before .before .before .before .before .pre .1) (c .before .before .before .before .before .loop .inv) (c .before .before .before .before .loop-test .taken) (c .before .before .before .first-route .ensures) (c .before .before .record-at .ensures) (c .before .good-route-of .ensures) (c .if1 .left)
+returns c =
+    let at-record-at = c .before .before in
+    let at-first-route = at-record-at .before in
+    let at-loop-test = at-first-route .before in
+    let at-loop = at-loop-test .before in
+    let at-start = at-loop .before in
+    stop _ _ _ _ _ _ _ (at-start .pre .0) (at-start .pre .1) (at-loop .loop .inv) (at-loop-test .loop-test .taken)
+    (at-first-route .first-route .ensures) (at-record-at .record-at .ensures) (c .before .good-route-of .ensures) (c .if1 .left)
 
 returns-2 : tie.Need-returns-2 Inv-loop μ-loop
 returns-2 c = finish _ _ _ _ _ (c .before .loop .inv) (c .loop-test .left)

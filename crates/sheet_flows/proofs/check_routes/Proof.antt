@@ -19,22 +19,56 @@ loop-holds : tie.Need-loop-holds Inv-loop μ-loop
 loop-holds c = set-out _ _
 
 advance-requires : tie.Need-advance-requires Inv-loop μ-loop
-advance-requires c κs = room _ _ _ _ _ (c .before .before .before .pre) (c .before .loop .inv) (c .loop-test .taken)
+advance-requires c κs =
+    let at-start = c .before .before .before in
+    room _ _ _ _ _ (at-start .pre) (c .before .loop .inv) (c .loop-test .taken)
 
 add-number : tie.Need-add-number Inv-loop μ-loop
-add-number c = omega (arith, c .before .before .before .before .pre .sized .limits, c .before .before .before .before .pre .sized .long, c .before .before .before .first-step .ensures)
+add-number c =
+    let at-first-step = c .before .before .before in
+    let at-start = at-first-step .before in
+    omega (arith, at-start .pre .sized .limits, at-start .pre .sized .long, at-first-step .first-step .ensures)
 
 number-requires : tie.Need-number-requires Inv-loop μ-loop
-number-requires c κs = (omega arith, omega (arith, c .before .before .before .before .pre .sized .limits, c .before .before .before .before .pre .sized .long, c .before .before .before .first-step .ensures))
+number-requires c κs =
+    let at-first-step = c .before .before .before in
+    let at-start = at-first-step .before in
+    (omega arith, omega (arith, at-start .pre .sized .limits, at-start .pre .sized .long, at-first-step .first-step .ensures))
 
 add-end : tie.Need-add-end Inv-loop μ-loop
-add-end c = omega (arith, end-inside _ _ _ _ _ (c .before .before .before .before .before .pre) (c .before .before .before .loop .inv) (c .before .before .loop-test .taken) (c .before .advance .ensures) (c .before .before .before .before .first-step .ensures) (c .number .ensures), c .before .before .before .before .before .pre .sized .limits .routes)
+add-end c =
+    let at-loop-test = c .before .before in
+    let at-loop = at-loop-test .before in
+    let at-first-step = at-loop .before in
+    let at-start = at-first-step .before in
+    omega (
+      arith,
+      end-inside _ _ _ _ _ (at-start .pre) (at-loop .loop .inv) (at-loop-test .loop-test .taken) (c .before .advance .ensures)
+          (at-first-step .first-step .ensures) (c .number .ensures),
+      at-start .pre .sized .limits .routes,
+    )
 
 check-group-requires : tie.Need-check-group-requires Inv-loop μ-loop
-check-group-requires c κs = (c .before .before .before .before .before .pre, at-step _ _ _ _ _ (c .before .before .before .before .before .pre) (c .before .before .before .loop .inv) (c .before .before .loop-test .taken) (c .before .advance .ensures) (c .before .before .before .before .first-step .ensures) (c .number .ensures))
+check-group-requires c κs =
+    let at-loop-test = c .before .before in
+    let at-loop = at-loop-test .before in
+    let at-first-step = at-loop .before in
+    let at-start = at-first-step .before in (
+      at-start .pre,
+      at-step _ _ _ _ _ (at-start .pre) (at-loop .loop .inv) (at-loop-test .loop-test .taken) (c .before .advance .ensures)
+          (at-first-step .first-step .ensures) (c .number .ensures),
+    )
 
 returns : tie.Need-returns Inv-loop μ-loop
-returns c = found _ _ _ _ _ (c .before .before .before .before .before .before .before .pre) (c .before .before .before .before .before .loop .inv) (c .before .before .before .before .loop-test .taken) (c .before .before .before .advance .ensures) (c .before .before .before .before .before .before .first-step .ensures) (c .before .before .number .ensures) (c .before .check-group .ensures) (c .if1 .taken)
+returns c =
+    let at-number = c .before .before in
+    let at-advance = at-number .before in
+    let at-loop-test = at-advance .before in
+    let at-loop = at-loop-test .before in
+    let at-first-step = at-loop .before in
+    let at-start = at-first-step .before in
+    found _ _ _ _ _ (at-start .pre) (at-loop .loop .inv) (at-loop-test .loop-test .taken) (at-advance .advance .ensures)
+    (at-first-step .first-step .ensures) (at-number .number .ensures) (c .before .check-group .ensures) (c .if1 .taken)
 
 add-i : tie.Need-add-i Inv-loop μ-loop
 add-i c = search needs
@@ -43,10 +77,20 @@ loop-less : tie.Need-loop-less Inv-loop μ-loop
 loop-less c = search needs
 
 loop-again : tie.Need-loop-again Inv-loop μ-loop
-loop-again c = onward _ _ _ _ _ (c .before .before .before .before .before .before .before .pre) (c .before .before .before .before .before .loop .inv) (c .before .before .before .before .loop-test .taken) (c .before .before .before .advance .ensures) (c .before .before .before .before .before .before .first-step .ensures) (c .before .before .number .ensures) (c .before .check-group .ensures) (c .if1 .left)
+loop-again c =
+    let at-number = c .before .before in
+    let at-advance = at-number .before in
+    let at-loop-test = at-advance .before in
+    let at-loop = at-loop-test .before in
+    let at-first-step = at-loop .before in
+    let at-start = at-first-step .before in
+    onward _ _ _ _ _ (at-start .pre) (at-loop .loop .inv) (at-loop-test .loop-test .taken) (at-advance .advance .ensures)
+    (at-first-step .first-step .ensures) (at-number .number .ensures) (c .before .check-group .ensures) (c .if1 .left)
 
 returns-2 : tie.Need-returns-2 Inv-loop μ-loop
-returns-2 c = arrived _ _ _ _ _ (c .before .before .before .pre) (c .before .loop .inv) (c .loop-test .left)
+returns-2 c =
+    let at-start = c .before .before .before in
+    arrived _ _ _ _ _ (at-start .pre) (c .before .loop .inv) (c .loop-test .left)
 
 pub check-routes-spec : {M : Type 1} → statement M
 check-routes-spec =

@@ -40,13 +40,33 @@ loop-less : tie.Need-loop-less Inv-loop μ-loop
 loop-less c = search needs
 
 loop-again : tie.Need-loop-again Inv-loop μ-loop
-loop-again c = (omega arith, extend-one (λ (j : ℕ). goodEntity (recordAt (c .before .before .before .before .before .before .args .s .now) (c .before .before .before .before .before .first-entity .result + j)) ≡ true) _ (c .before .before .before .before .loop .inv .1) (rw (← c .before .before .record-at .ensures, ← c .before .good-entity .ensures) (c .if1 .taken)))
+loop-again c =
+    let at-record-at = c .before .before in
+    let at-loop = at-record-at .before .before in
+    let at-first-entity = at-loop .before in
+    let at-start = at-first-entity .before in (
+      omega arith,
+      extend-one (λ (j : ℕ). goodEntity (recordAt (at-start .args .s .now) (at-first-entity .first-entity .result + j)) ≡ true) _
+          (at-loop .loop .inv .1) (rw (← at-record-at .record-at .ensures, ← c .before .good-entity .ensures) (c .if1 .taken)),
+    )
 
 returns : tie.Need-returns Inv-loop μ-loop
-returns c = fail-at (λ (e : ℕ). goodEntity (entity (c .before .before .before .before .before .before .args .s .now) (c .before .before .before .before .before .before .args .h) e)) _ _ (c .before .before .before .loop-test .taken) (λ j l. rw (← c .before .before .before .before .before .first-entity .ensures) (c .before .before .before .before .loop .inv .1 j l)) (rw (← c .before .before .before .before .before .first-entity .ensures) (rw (← c .before .before .record-at .ensures, ← c .before .good-entity .ensures) (c .if1 .left)))
+returns c =
+    let at-record-at = c .before .before in
+    let at-loop-test = at-record-at .before in
+    let at-loop = at-loop-test .before in
+    let at-first-entity = at-loop .before in
+    let at-start = at-first-entity .before in
+    fail-at (λ (e : ℕ). goodEntity (entity (at-start .args .s .now) (at-start .args .h) e)) _ _ (at-loop-test .loop-test .taken)
+    (λ j l. rw (← at-first-entity .first-entity .ensures) (at-loop .loop .inv .1 j l))
+    (rw (← at-first-entity .first-entity .ensures) (rw (← at-record-at .record-at .ensures, ← c .before .good-entity .ensures) (c .if1 .left)))
 
 returns-2 : tie.Need-returns-2 Inv-loop μ-loop
-returns-2 c = fail-none (λ (e : ℕ). goodEntity (entity (c .before .before .before .args .s .now) (c .before .before .before .args .h) e)) _ _ (c .before .loop .inv .0) (c .loop-test .left) (λ j l. rw (← c .before .before .first-entity .ensures) (c .before .loop .inv .1 j l))
+returns-2 c =
+    let at-first-entity = c .before .before in
+    let at-start = at-first-entity .before in
+    fail-none (λ (e : ℕ). goodEntity (entity (at-start .args .s .now) (at-start .args .h) e)) _ _ (c .before .loop .inv .0) (c .loop-test .left)
+    (λ j l. rw (← at-first-entity .first-entity .ensures) (c .before .loop .inv .1 j l))
 
 pub check-entities-spec : {M : Type 1} → statement M
 check-entities-spec =

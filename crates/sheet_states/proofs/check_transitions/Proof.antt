@@ -36,10 +36,27 @@ unused-requires : tie.Need-unused-requires Inv-loop μ-loop
 unused-requires c κs = search needs
 
 place-of-requires : tie.Need-place-of-requires Inv-loop μ-loop
-place-of-requires c κs = let z = small _ _ _ _ (c .before .before .before .before .before .loop .inv .1) (c .before .before .before .before .before .before .first-transition .ensures) (c .before .before .before .record-at .ensures) (c .before .before .good-change .ensures) (c .before .unused .ensures) (c .before .before .before .before .before .before .before .before .pre .1) (c .if1 .taken) in omega (arith, c .before .before .before .before .before .before .before .before .pre .0 .limits .entities)
+place-of-requires c κs =
+    let at-good-change = c .before .before in
+    let at-record-at = at-good-change .before in
+    let at-loop = at-record-at .before .before in
+    let at-first-transition = at-loop .before in
+    let at-start = at-first-transition .before .before in
+    let z = small _ _ _ _ (at-loop .loop .inv .1) (at-first-transition .first-transition .ensures) (at-record-at .record-at .ensures)
+    (at-good-change .good-change .ensures) (c .before .unused .ensures) (at-start .pre .1) (c .if1 .taken) in
+    omega (arith, at-start .pre .0 .limits .entities)
 
 slice-write-declared : tie.Need-slice-write-declared Inv-loop μ-loop
-slice-write-declared c = let z = (small _ _ _ _ (c .before .before .before .before .before .before .loop .inv .1) (c .before .before .before .before .before .before .before .first-transition .ensures) (c .before .before .before .before .record-at .ensures) (c .before .before .before .good-change .ensures) (c .before .before .unused .ensures) (c .before .before .before .before .before .before .before .before .before .pre .1) (c .before .if1 .taken)) in omega (arith, c .before .before .before .before .before .before .loop .inv .1 .long, c .before .before .before .before .before .before .loop .inv .1 .room, c .place-of .ensures)
+slice-write-declared c =
+    let at-unused = c .before .before in
+    let at-good-change = at-unused .before in
+    let at-record-at = at-good-change .before in
+    let at-loop = at-record-at .before .before in
+    let at-first-transition = at-loop .before in
+    let at-start = at-first-transition .before .before in
+    let z = (small _ _ _ _ (at-loop .loop .inv .1) (at-first-transition .first-transition .ensures) (at-record-at .record-at .ensures)
+    (at-good-change .good-change .ensures) (at-unused .unused .ensures) (at-start .pre .1) (c .before .if1 .taken)) in
+    omega (arith, at-loop .loop .inv .1 .long, at-loop .loop .inv .1 .room, c .place-of .ensures)
 
 add-k : tie.Need-add-k Inv-loop μ-loop
 add-k c = search needs
@@ -48,22 +65,52 @@ loop-less : tie.Need-loop-less Inv-loop μ-loop
 loop-less c = search needs
 
 loop-again : tie.Need-loop-again Inv-loop μ-loop
-loop-again c = (omega arith, again _ _ _ _ (c .before .before .before .before .before .before .loop .inv .1) (c .before .before .before .before .before .before .before .first-transition .ensures) (c .before .before .before .before .record-at .ensures) (c .before .before .before .good-change .ensures) (c .before .before .unused .ensures) (small _ _ _ _ (c .before .before .before .before .before .before .loop .inv .1) (c .before .before .before .before .before .before .before .first-transition .ensures) (c .before .before .before .before .record-at .ensures) (c .before .before .before .good-change .ensures) (c .before .before .unused .ensures) (c .before .before .before .before .before .before .before .before .before .pre .1) (c .before .if1 .taken)) (c .before .if1 .taken) (c .place-of .ensures))
+loop-again c =
+    let at-unused = c .before .before in
+    let at-good-change = at-unused .before in
+    let at-record-at = at-good-change .before in
+    let at-loop = at-record-at .before .before in
+    let at-first-transition = at-loop .before in
+    let at-start = at-first-transition .before .before in (
+      omega arith,
+      again _ _ _ _ (at-loop .loop .inv .1) (at-first-transition .first-transition .ensures) (at-record-at .record-at .ensures)
+          (at-good-change .good-change .ensures) (at-unused .unused .ensures)
+          (small _ _ _ _ (at-loop .loop .inv .1) (at-first-transition .first-transition .ensures) (at-record-at .record-at .ensures)
+          (at-good-change .good-change .ensures) (at-unused .unused .ensures) (at-start .pre .1) (c .before .if1 .taken)) (c .before .if1 .taken)
+          (c .place-of .ensures),
+    )
 
 same-length : tie.Need-same-length Inv-loop μ-loop
-same-length c = c .before .before .before .before .before .loop .inv .1 .long
+same-length c =
+    let at-loop = c .before .before .before .before .before in
+    at-loop .loop .inv .1 .long
 
 returns : tie.Need-returns Inv-loop μ-loop
-returns c = (fail-at (goodTransition (c .before .before .before .before .before .before .before .before .args .s .now) (c .before .before .before .before .before .before .before .before .args .h)) _ _ (c .before .before .before .before .loop-test .taken) (c .before .before .before .before .before .loop .inv .1 .good) (stop _ _ _ _ (c .before .before .before .before .before .loop .inv .1) (c .before .before .before .before .before .before .first-transition .ensures) (c .before .before .before .record-at .ensures) (c .before .before .good-change .ensures) (c .before .unused .ensures) (c .if1 .left)), λ l. absurd (omega arith))
+returns c =
+    let at-good-change = c .before .before in
+    let at-record-at = at-good-change .before in
+    let at-loop-test = at-record-at .before in
+    let at-loop = at-loop-test .before in
+    let at-first-transition = at-loop .before in
+    let at-start = at-first-transition .before .before in (
+      fail-at (goodTransition (at-start .args .s .now) (at-start .args .h)) _ _ (at-loop-test .loop-test .taken) (at-loop .loop .inv .1 .good)
+          (stop _ _ _ _ (at-loop .loop .inv .1) (at-first-transition .first-transition .ensures) (at-record-at .record-at .ensures)
+          (at-good-change .good-change .ensures) (c .before .unused .ensures) (c .if1 .left)),
+      λ l. absurd (omega arith),
+    )
 
 same-length-2 : tie.Need-same-length-2 Inv-loop μ-loop
 same-length-2 c = c .before .loop .inv .1 .long
 
 returns-2 : tie.Need-returns-2 Inv-loop μ-loop
-returns-2 c = (
-  fail-none (goodTransition (c .before .before .before .before .args .s .now) (c .before .before .before .before .args .h)) _ _ (c .before .loop .inv .0) (c .loop-test .left) (c .before .loop .inv .1 .good),
-  λ l. subst (λ (n : ℕ). Declared (c .before .before .before .before .args .s .now) (c .before .before .before .before .args .h) (length (c .before .before .before .before .args .declared .now)) n (c .before .loop .declared)) (omega arith) (c .before .loop .inv .1),
-)
+returns-2 c =
+    let at-start = c .before .before .before .before in (
+      fail-none (goodTransition (at-start .args .s .now) (at-start .args .h)) _ _ (c .before .loop .inv .0) (c .loop-test .left)
+          (c .before .loop .inv .1 .good),
+      λ l. subst
+          (λ (n : ℕ). Declared (at-start .args .s .now) (at-start .args .h) (length (at-start .args .declared .now)) n (c .before .loop .declared))
+          (omega arith) (c .before .loop .inv .1),
+    )
 
 pub check-transitions-spec : {M : Type 1} → statement M
 check-transitions-spec =

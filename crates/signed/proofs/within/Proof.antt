@@ -14,7 +14,8 @@ at-most-requires-2 c κs = search needs
 returns : tie.Need-returns
 unfolding within
 returns c =
-    let f = c .before .before .fits in
+    let at-start = c .before .before in
+    let f = at-start .fits in
     rw (c .before .at-most .ensures, c .at-most2 .ensures, back (f .low), back (f .x), back (f .high))
 
 pub within-spec : {M : Type 1} → statement M

@@ -16,7 +16,9 @@ returns : tie.Need-returns
 returns c = rw (c .before .if1 .taken)
 
 returns-2 : tie.Need-returns-2
-returns-2 c = rw (c .before .if1 .taken) (sym (set-out (c .before .before .args .t .now) (c .before .before .args .i) true (c .if2 .left)))
+returns-2 c =
+    let at-start = c .before .before in
+    rw (c .before .if1 .taken) (sym (set-out (at-start .args .t .now) (at-start .args .i) true (c .if2 .left)))
 
 returns-3 : tie.Need-returns-3
 returns-3 c = rw (c .if1 .left)

@@ -14,8 +14,16 @@ Inv-loop text at₀ k₀ at k = Counting text at k
 abbrev μ-loop : tie.MeasureT-loop
 μ-loop text at₀ k₀ at k = length text - at
 
-more : (c : tie.After-known-told Inv-loop μ-loop) → (c .before .before .before .before .before .loop .at < c .before .next .given .0 .0) × Counting (c .before .before .before .before .before .before .before .args .text .now) (c .before .next .given .0 .0) (c .before .before .before .before .before .loop .k + 1)
-more c = counting-more (c .before .before .before .before .before .before .before .args .text .now) (c .before .before .before .before .before .loop .at) (c .before .before .before .before .before .loop .k) (c .before .next .given .0 .0) (c .before .before .before .before .before .loop .inv) (sym (c .before .before .before .line-at .ensures) ∙ c .before .next .given .1)
+more :
+    (c : tie.After-known-told Inv-loop μ-loop) → (c .before .before .before .before .before .loop .at < c .before .next .given .0 .0) × Counting
+    (c .before .before .before .before .before .before .before .args .text .now) (c .before .next .given .0 .0)
+    (c .before .before .before .before .before .loop .k + 1)
+more c =
+    let at-line-at = c .before .before .before in
+    let at-loop = at-line-at .before .before in
+    let at-start = at-loop .before .before in
+    counting-more (at-start .args .text .now) (at-loop .loop .at) (at-loop .loop .k) (c .before .next .given .0 .0) (at-loop .loop .inv)
+    (sym (at-line-at .line-at .ensures) ∙ c .before .next .given .1)
 
 loop-holds : tie.Need-loop-holds Inv-loop μ-loop
 loop-holds c = counting-none (c .before .args .text .now)
@@ -28,11 +36,14 @@ enum-known-next c = search needs
 
 add-k : tie.Need-add-k Inv-loop μ-loop
 add-k c =
-    let turn = c .before .before .before .before .before .loop in
+    let at-loop = c .before .before .before .before .before in
+    let turn = at-loop .loop in
     omega (arith, turn .inv .within, turn .inv .most)
 
 loop-less : tie.Need-loop-less Inv-loop μ-loop
-loop-less c = omega (arith, more c .0, c .before .before .before .before .loop-test .taken)
+loop-less c =
+    let at-loop-test = c .before .before .before .before in
+    omega (arith, more c .0, at-loop-test .loop-test .taken)
 
 loop-again : tie.Need-loop-again Inv-loop μ-loop
 loop-again c = more c .1
@@ -42,8 +53,13 @@ enum-told c = search needs
 
 returns : tie.Need-returns Inv-loop μ-loop
 returns c =
-    let turn = c .before .before .before .before .loop in
-    sym (counting-bad (c .before .before .before .before .before .before .args .text .now) (turn .at) (turn .k) (c .before .before .before .loop-test .taken) (turn .inv) (sym (c .before .before .line-at .ensures) ∙ c .enum-told .given .1))
+    let at-line-at = c .before .before in
+    let at-loop-test = at-line-at .before in
+    let at-loop = at-loop-test .before in
+    let at-start = at-loop .before .before in
+    let turn = at-loop .loop in
+    sym (counting-bad (at-start .args .text .now) (turn .at) (turn .k) (at-loop-test .loop-test .taken) (turn .inv)
+    (sym (at-line-at .line-at .ensures) ∙ c .enum-told .given .1))
 
 mul-t9 : tie.Need-mul-t9 Inv-loop μ-loop
 mul-t9 c =
@@ -52,8 +68,9 @@ mul-t9 c =
 
 returns-2 : tie.Need-returns-2 Inv-loop μ-loop
 returns-2 c =
+    let at-start = c .before .before .before in
     let turn = c .before .loop in
-    sym (counting-done (c .before .before .before .args .text .now) (turn .at) (turn .k) (c .loop-test .left) (turn .inv))
+    sym (counting-done (at-start .args .text .now) (turn .at) (turn .k) (c .loop-test .left) (turn .inv))
 
 pub count-words-spec : {M : Type 1} → statement M
 count-words-spec =

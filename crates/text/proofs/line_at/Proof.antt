@@ -39,8 +39,12 @@ loop-less c = search needs
 loop-again : tie.Need-loop-again Inv-loop μ-loop
 loop-again c =
     let start = c .before .before .before .before .before .before .before .before in
-    let turn = c .before .before .before .before .before .before .loop in
-    (omega arith, so-far-more (start .args .text .now) (start .args .at) (turn .next) (turn .j) (c .before .after .given .0 .0) (c .before .after .given .0 .1 .0) (turn .inv .1) (rw (c .before .before .before .before .ending .ensures) at (sym (c .before .before .before .field-at .ensures) ∙ c .before .after .given .1)))
+    let turn = c .before .before .before .before .before .before .loop in (
+      omega arith,
+      so-far-more (start .args .text .now) (start .args .at) (turn .next) (turn .j) (c .before .after .given .0 .0) (c .before .after .given .0 .1 .0)
+          (turn .inv .1) (rw (c .before .before .before .before .ending .ensures)
+          at (sym (c .before .before .before .field-at .ensures) ∙ c .before .after .given .1)),
+    )
 
 enum-told : tie.Need-enum-told Inv-loop μ-loop
 enum-told c = search needs
@@ -49,7 +53,8 @@ returns : tie.Need-returns Inv-loop μ-loop
 returns c =
     let start = c .before .before .before .before .before .before .before in
     let turn = c .before .before .before .before .before .loop in
-    sym (so-far-bad (start .args .text .now) (start .args .at) (turn .next) (turn .j) (c .before .before .before .before .loop-test .taken) (turn .inv .1) (rw (c .before .before .before .ending .ensures) at (sym (c .before .before .field-at .ensures) ∙ c .enum-told .given .1)))
+    sym (so-far-bad (start .args .text .now) (start .args .at) (turn .next) (turn .j) (c .before .before .before .before .loop-test .taken)
+    (turn .inv .1) (rw (c .before .before .before .ending .ensures) at (sym (c .before .before .field-at .ensures) ∙ c .enum-told .given .1)))
 
 returns-2 : tie.Need-returns-2 Inv-loop μ-loop
 returns-2 c =

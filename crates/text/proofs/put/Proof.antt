@@ -18,8 +18,14 @@ Inv-loop words text₀ at₀ i₀ text at i = (i ≤ length words) × Putting wo
 abbrev μ-loop : tie.MeasureT-loop
 μ-loop words text₀ at₀ i₀ text at i = length words - i
 
-told : (c : tie.After-put-field-arg2 Inv-loop μ-loop) → toZ w64 (ofZ w64 (getD (c .before .before .before .before .before .args .words .now) (c .before .before .before .loop .i) (pos 0))) ≡ getD (c .before .before .before .before .before .args .words .now) (c .before .before .before .loop .i) (pos 0)
-told c = toZ-ofZ w64 (getD (c .before .before .before .before .before .args .words .now) (c .before .before .before .loop .i) (pos 0)) (record { sfits = c .put-field-arg2 .given })
+told :
+    (c : tie.After-put-field-arg2 Inv-loop μ-loop) →
+    toZ w64 (ofZ w64 (getD (c .before .before .before .before .before .args .words .now) (c .before .before .before .loop .i) (pos 0))) ≡ getD
+    (c .before .before .before .before .before .args .words .now) (c .before .before .before .loop .i) (pos 0)
+told c =
+    let at-loop = c .before .before .before in
+    let at-start = at-loop .before .before in
+    toZ-ofZ w64 (getD (at-start .args .words .now) (at-loop .loop .i) (pos 0)) (record { sfits = c .put-field-arg2 .given })
 
 loop-holds : tie.Need-loop-holds Inv-loop μ-loop
 loop-holds c =
@@ -39,7 +45,12 @@ put-field-requires : tie.Need-put-field-requires Inv-loop μ-loop
 put-field-requires c κs =
     let start = c .before .before .before .before .before .before in
     let turn = c .before .before .before .before .loop in
-    rw (told (c .before)) (putting-permitted (start .args .words .now) (start .pre .0) (start .args .text .now) (turn .text) (turn .at) (turn .i) (turn .inv .1) (c .before .before .before .loop-test .taken), putting-room (start .args .words .now) (start .pre .0) (start .args .text .now) (turn .text) (turn .at) (turn .i) (turn .inv .1) (c .before .before .before .loop-test .taken))
+    rw (told (c .before)) (
+      putting-permitted (start .args .words .now) (start .pre .0) (start .args .text .now) (turn .text) (turn .at) (turn .i) (turn .inv .1)
+          (c .before .before .before .loop-test .taken),
+      putting-room (start .args .words .now) (start .pre .0) (start .args .text .now) (turn .text) (turn .at) (turn .i) (turn .inv .1)
+          (c .before .before .before .loop-test .taken),
+    )
 
 add-i : tie.Need-add-i Inv-loop μ-loop
 add-i c = search needs
@@ -50,8 +61,13 @@ loop-less c = search needs
 loop-again : tie.Need-loop-again Inv-loop μ-loop
 loop-again c =
     let start = c .before .before .before .before .before .before .before .before .before in
-    let turn = c .before .before .before .before .before .before .before .loop in
-    (omega arith, putting-more (start .args .words .now) (start .pre .0) (start .args .text .now) (turn .text) (turn .at) (turn .i) (turn .inv .1) (c .before .before .before .before .before .before .loop-test .taken) (c .before .before .put-field .last .0) (c .before .before .put-field .result) (rw (told (c .before .before .before .before)) at (c .before .before .put-field .ensures .0)) (rw (told (c .before .before .before .before), c .before .before .before .ending .ensures) at (c .before .before .put-field .ensures .1)))
+    let turn = c .before .before .before .before .before .before .before .loop in (
+      omega arith,
+      putting-more (start .args .words .now) (start .pre .0) (start .args .text .now) (turn .text) (turn .at) (turn .i) (turn .inv .1)
+          (c .before .before .before .before .before .before .loop-test .taken) (c .before .before .put-field .last .0)
+          (c .before .before .put-field .result) (rw (told (c .before .before .before .before)) at (c .before .before .put-field .ensures .0))
+          (rw (told (c .before .before .before .before), c .before .before .before .ending .ensures) at (c .before .before .put-field .ensures .1)),
+    )
 
 same-length : tie.Need-same-length Inv-loop μ-loop
 same-length c = c .before .loop .inv .1 .size
@@ -60,7 +76,8 @@ returns : tie.Need-returns Inv-loop μ-loop
 returns c =
     let start = c .before .before .before in
     let turn = c .before .loop in
-    putting-done (start .args .words .now) (start .pre .0) (start .args .text .now) (turn .text) (turn .at) (turn .i) (c .loop-test .left) (turn .inv .1)
+    putting-done (start .args .words .now) (start .pre .0) (start .args .text .now) (turn .text) (turn .at) (turn .i) (c .loop-test .left)
+    (turn .inv .1)
 
 pub put-spec : {M : Type 1} → statement M
 put-spec =

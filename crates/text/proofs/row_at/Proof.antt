@@ -21,7 +21,9 @@ Inv-loop words from n₀ j₀ n j = (j ≤ 8) × Sizing (take 8 (drop from words
 abbrev μ-loop : tie.MeasureT-loop
 μ-loop words from n₀ j₀ n j = 8 - j
 
-within : (c : tie.In-loop Inv-loop μ-loop) → c .before .before .before .args .from + c .before .loop .j < length (c .before .before .before .args .words .now)
+within :
+    (c : tie.In-loop Inv-loop μ-loop) →
+    c .before .before .before .args .from + c .before .loop .j < length (c .before .before .before .args .words .now)
 within c = omega (arith, c .loop-test .taken, c .before .before .if1 .left)
 
 full : (c : tie.Else1 Inv-loop μ-loop) → length (take 8 (drop (c .before .args .from) (c .before .args .words .now))) ≡ 8
@@ -30,18 +32,37 @@ full c = omega (arith, row-size (c .before .args .words .now) (c .before .args .
 eight : (c : tie.After-loop Inv-loop μ-loop) → c .before .loop .j ≡ 8
 eight c = omega (arith, c .loop-test .left, c .before .loop .inv .0)
 
-tested : (c : tie.After-has-text Inv-loop μ-loop) → c .has-text .result ≡ hasText (getD (take 8 (drop (c .before .before .before .before .before .args .from) (c .before .before .before .before .before .args .words .now))) (c .before .before .before .loop .j) (pos 0))
+tested :
+    (c : tie.After-has-text Inv-loop μ-loop) → c .has-text .result ≡ hasText (getD
+    (take 8 (drop (c .before .before .before .before .before .args .from) (c .before .before .before .before .before .args .words .now)))
+    (c .before .before .before .loop .j) (pos 0))
 tested c =
-    rw (toZ-ofZ w64 (getD (c .before .before .before .before .before .args .words .now) (c .before .before .before .before .before .args .from + c .before .before .before .loop .j) (pos 0)) (record { sfits = c .before .w .given })) at (c .has-text .ensures)
-    ∙ ap hasText (sym (row-word (c .before .before .before .before .before .args .words .now) (c .before .before .before .before .before .args .from) (c .before .before .before .loop .j) (c .before .before .loop-test .taken)))
+    let at-loop-test = c .before .before in
+    let at-loop = at-loop-test .before in
+    let at-start = at-loop .before .before in
+    rw (toZ-ofZ w64 (getD (at-start .args .words .now) (at-start .args .from + at-loop .loop .j) (pos 0)) (record { sfits = c .before .w .given }))
+    at (c .has-text .ensures)
+    ∙ ap hasText (sym (row-word (at-start .args .words .now) (at-start .args .from) (at-loop .loop .j) (at-loop-test .loop-test .taken)))
 
-passed : (c : tie.Else2 Inv-loop μ-loop) → hasText (getD (take 8 (drop (c .before .before .before .before .before .before .args .from) (c .before .before .before .before .before .before .args .words .now))) (c .before .before .before .before .loop .j) (pos 0)) ≡ true
+passed :
+    (c : tie.Else2 Inv-loop μ-loop) → hasText (getD (take 8
+    (drop (c .before .before .before .before .before .before .args .from) (c .before .before .before .before .before .before .args .words .now)))
+    (c .before .before .before .before .loop .j) (pos 0)) ≡ true
 passed c = sym (tested (c .before)) ∙ not-false (c .before .has-text .result) (c .if2 .left)
 
-sized : (c : tie.After-size Inv-loop μ-loop) → c .size .result ≡ length (decimal (getD (take 8 (drop (c .before .before .before .before .before .before .before .args .from) (c .before .before .before .before .before .before .before .args .words .now))) (c .before .before .before .before .before .loop .j) (pos 0)))
+sized :
+    (c : tie.After-size Inv-loop μ-loop) →
+    c .size .result ≡ length (decimal (getD (take 8 (drop (c .before .before .before .before .before .before .before .args .from)
+    (c .before .before .before .before .before .before .before .args .words .now))) (c .before .before .before .before .before .loop .j) (pos 0)))
 sized c =
-    rw (toZ-ofZ w64 (getD (c .before .before .before .before .before .before .before .args .words .now) (c .before .before .before .before .before .before .before .args .from + c .before .before .before .before .before .loop .j) (pos 0)) (record { sfits = c .before .before .before .w .given })) at (c .size .ensures)
-    ∙ ap (λ (z : ℤ). length (decimal z)) (sym (row-word (c .before .before .before .before .before .before .before .args .words .now) (c .before .before .before .before .before .before .before .args .from) (c .before .before .before .before .before .loop .j) (c .before .before .before .before .loop-test .taken)))
+    let at-w = c .before .before .before in
+    let at-loop-test = at-w .before in
+    let at-loop = at-loop-test .before in
+    let at-start = at-loop .before .before in
+    rw (toZ-ofZ w64 (getD (at-start .args .words .now) (at-start .args .from + at-loop .loop .j) (pos 0)) (record { sfits = at-w .w .given }))
+    at (c .size .ensures)
+    ∙ ap (λ (z : ℤ). length (decimal z))
+    (sym (row-word (at-start .args .words .now) (at-start .args .from) (at-loop .loop .j) (at-loop-test .loop-test .taken)))
 
 sub-if1 : tie.Need-sub-if1 Inv-loop μ-loop
 sub-if1 c = search needs
@@ -49,7 +70,8 @@ sub-if1 c = search needs
 returns : tie.Need-returns Inv-loop μ-loop
 returns c =
     let start = c .before in
-    sym (row-short (take 8 (drop (start .args .from) (start .args .words .now))) (omega (arith, row-size (start .args .words .now) (start .args .from))))
+    sym
+    (row-short (take 8 (drop (start .args .from) (start .args .words .now))) (omega (arith, row-size (start .args .words .now) (start .args .from))))
 
 loop-holds : tie.Need-loop-holds Inv-loop μ-loop
 loop-holds c =
@@ -72,7 +94,10 @@ returns-2 : tie.Need-returns-2 Inv-loop μ-loop
 returns-2 c =
     let start = c .before .before .before .before .before .before in
     let turn = c .before .before .before .before .loop in
-    sym (row-bad (take 8 (drop (start .args .from) (start .args .words .now))) (sizing-bad (take 8 (drop (start .args .from) (start .args .words .now))) (turn .n) (turn .j) (turn .inv .1) (omega (arith, full (c .before .before .before .before .before))) (sym (tested (c .before)) ∙ not-true (c .before .has-text .result) (c .if2 .taken))))
+    sym (row-bad (take 8 (drop (start .args .from) (start .args .words .now)))
+    (sizing-bad (take 8 (drop (start .args .from) (start .args .words .now))) (turn .n) (turn .j) (turn .inv .1)
+    (omega (arith, full (c .before .before .before .before .before)))
+    (sym (tested (c .before)) ∙ not-true (c .before .has-text .result) (c .if2 .taken))))
 
 size-requires : tie.Need-size-requires Inv-loop μ-loop
 size-requires c κs = sym (c .before .has-text .ensures) ∙ not-false (c .before .has-text .result) (c .if2 .left)
@@ -80,13 +105,23 @@ size-requires c κs = sym (c .before .has-text .ensures) ∙ not-false (c .befor
 add-n : tie.Need-add-n Inv-loop μ-loop
 add-n c =
     let start = c .before .before .before .before .before .before .before in
-    omega (arith, sized c, decimal-small (getD (take 8 (drop (start .args .from) (start .args .words .now))) (c .before .before .before .before .before .loop .j) (pos 0)) (passed (c .before)))
+    omega (
+      arith,
+      sized c,
+      decimal-small (getD (take 8 (drop (start .args .from) (start .args .words .now))) (c .before .before .before .before .before .loop .j) (pos 0))
+          (passed (c .before)),
+    )
 
 add-n-2 : tie.Need-add-n-2 Inv-loop μ-loop
 add-n-2 c =
     let start = c .before .before .before .before .before .before .before in
     let turn = c .before .before .before .before .before .loop in
-    omega (arith, sized c, decimal-small (getD (take 8 (drop (start .args .from) (start .args .words .now))) (turn .j) (pos 0)) (passed (c .before)), turn .inv .1 .most)
+    omega (
+      arith,
+      sized c,
+      decimal-small (getD (take 8 (drop (start .args .from) (start .args .words .now))) (turn .j) (pos 0)) (passed (c .before)),
+      turn .inv .1 .most,
+    )
 
 add-j : tie.Need-add-j Inv-loop μ-loop
 add-j c = search needs
@@ -97,14 +132,18 @@ loop-less c = search needs
 loop-again : tie.Need-loop-again Inv-loop μ-loop
 loop-again c =
     let start = c .before .before .before .before .before .before .before in
-    let turn = c .before .before .before .before .before .loop in
-    (omega arith, rw (sized c) (sizing-more (take 8 (drop (start .args .from) (start .args .words .now))) (turn .n) (turn .j) (turn .inv .1) (omega (arith, full (c .before .before .before .before .before .before))) (passed (c .before))))
+    let turn = c .before .before .before .before .before .loop in (
+      omega arith,
+      rw (sized c) (sizing-more (take 8 (drop (start .args .from) (start .args .words .now))) (turn .n) (turn .j) (turn .inv .1)
+          (omega (arith, full (c .before .before .before .before .before .before))) (passed (c .before))),
+    )
 
 returns-3 : tie.Need-returns-3 Inv-loop μ-loop
 returns-3 c =
     let start = c .before .before .before in
     let turn = c .before .loop in
-    sym (sizing-done (take 8 (drop (start .args .from) (start .args .words .now))) (turn .n) (full (c .before .before)) (rw (eight c) at (turn .inv .1)))
+    sym
+    (sizing-done (take 8 (drop (start .args .from) (start .args .words .now))) (turn .n) (full (c .before .before)) (rw (eight c) at (turn .inv .1)))
 
 pub row-at-spec : {M : Type 1} → statement M
 row-at-spec =

@@ -58,7 +58,24 @@ number-at-requires-8 c κs = search needs
 
 returns : tie.Need-returns
 unfolding recordAt
-returns c = rw (add-zero, c .before .before .before .before .before .before .before .number-at .ensures, c .before .before .before .before .before .before .number-at2 .ensures, c .before .before .before .before .before .number-at3 .ensures, c .before .before .before .before .number-at4 .ensures, c .before .before .before .number-at5 .ensures, c .before .before .number-at6 .ensures, c .before .number-at7 .ensures, c .number-at8 .ensures)
+returns c =
+    let at-number-at6 = c .before .before in
+    let at-number-at5 = at-number-at6 .before in
+    let at-number-at4 = at-number-at5 .before in
+    let at-number-at3 = at-number-at4 .before in
+    let at-number-at2 = at-number-at3 .before in
+    let at-number-at = at-number-at2 .before in
+    rw (
+      add-zero,
+      at-number-at .number-at .ensures,
+      at-number-at2 .number-at2 .ensures,
+      at-number-at3 .number-at3 .ensures,
+      at-number-at4 .number-at4 .ensures,
+      at-number-at5 .number-at5 .ensures,
+      at-number-at6 .number-at6 .ensures,
+      c .before .number-at7 .ensures,
+      c .number-at8 .ensures,
+    )
 
 pub record-at-spec : {M : Type 1} → statement M
 record-at-spec =

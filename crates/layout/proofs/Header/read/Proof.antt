@@ -39,7 +39,29 @@ number-at-requires-11 c κs = search needs
 
 returns : tie.Need-returns
 unfolding headerOf
-returns c = rw (c .before .before .before .before .before .before .before .before .before .before .number-at .ensures, c .before .before .before .before .before .before .before .before .before .number-at2 .ensures, c .before .before .before .before .before .before .before .before .number-at3 .ensures, c .before .before .before .before .before .before .before .number-at4 .ensures, c .before .before .before .before .before .before .number-at5 .ensures, c .before .before .before .before .before .number-at6 .ensures, c .before .before .before .before .number-at7 .ensures, c .before .before .before .number-at8 .ensures, c .before .before .number-at9 .ensures, c .before .number-at10 .ensures, c .number-at11 .ensures)
+returns c =
+    let at-number-at9 = c .before .before in
+    let at-number-at8 = at-number-at9 .before in
+    let at-number-at7 = at-number-at8 .before in
+    let at-number-at6 = at-number-at7 .before in
+    let at-number-at5 = at-number-at6 .before in
+    let at-number-at4 = at-number-at5 .before in
+    let at-number-at3 = at-number-at4 .before in
+    let at-number-at2 = at-number-at3 .before in
+    let at-number-at = at-number-at2 .before in
+    rw (
+      at-number-at .number-at .ensures,
+      at-number-at2 .number-at2 .ensures,
+      at-number-at3 .number-at3 .ensures,
+      at-number-at4 .number-at4 .ensures,
+      at-number-at5 .number-at5 .ensures,
+      at-number-at6 .number-at6 .ensures,
+      at-number-at7 .number-at7 .ensures,
+      at-number-at8 .number-at8 .ensures,
+      at-number-at9 .number-at9 .ensures,
+      c .before .number-at10 .ensures,
+      c .number-at11 .ensures,
+    )
 
 pub read-spec : {M : Type 1} → statement M
 read-spec =

@@ -21,10 +21,14 @@ first-operation-requires : tie.Need-first-operation-requires Inv-loop μ-loop
 first-operation-requires c κs = search needs
 
 add-record-at : tie.Need-add-record-at Inv-loop μ-loop
-add-record-at c = omega (arith, c .before .before .before .before .before .pre .0 .limits, c .before .before .before .before .before .pre .0 .long, c .first-operation .ensures)
+add-record-at c =
+    let at-start = c .before .before .before .before .before in
+    omega (arith, at-start .pre .0 .limits, at-start .pre .0 .long, c .first-operation .ensures)
 
 record-at-requires : tie.Need-record-at-requires Inv-loop μ-loop
-record-at-requires c κs = omega (arith, c .before .before .before .before .before .pre .0 .limits, c .before .before .before .before .before .pre .0 .long, c .first-operation .ensures)
+record-at-requires c κs =
+    let at-start = c .before .before .before .before .before in
+    omega (arith, at-start .pre .0 .limits, at-start .pre .0 .long, c .first-operation .ensures)
 
 root-requires : tie.Need-root-requires Inv-loop μ-loop
 root-requires c κs = search needs
@@ -39,25 +43,70 @@ mark-requires : tie.Need-mark-requires Inv-loop μ-loop
 mark-requires c κs = search needs
 
 add-sum : tie.Need-add-sum Inv-loop μ-loop
-add-sum c = omega (arith, fits _ _ _ _ (c .before .before .before .before .before .before .before .before .before .before .before .before .before .before .before .before .before .before .before .before .args .types .now) (c .before .before .before .before .before .before .before .before .before .before .before .before .before .before .before .before .before .before .before .before .pre .2) (c .before .before .before .before .before .before .before .before .before .before .before .before .before .before .before .before .before .loop .inv) (c .before .before .before .before .before .before .before .before .before .before .before .before .before .before .before .before .loop-test .taken) (c .before .before .before .before .before .before .before .before .before .before .before .before .before .before .before .first-operation .ensures) (c .before .before .before .before .before .before .before .before .before .before .before .before .before .before .record-at .ensures) (c .before .before .before .before .before .before .before .before .before .before .before .before .before .before .before .before .before .before .before .before .pre .1), c .before .before .before .before .before .before .before .before .before .before .before .before .before .before .before .before .before .before .before .before .pre .0 .limits .effects)
+add-sum c =
+    let at-record-at = c .before .before .before .before .before .before .before .before .before .before .before .before .before .before in
+    let at-first-operation = at-record-at .before in
+    let at-loop-test = at-first-operation .before in
+    let at-loop = at-loop-test .before in
+    let at-start = at-loop .before .before .before in
+    omega (
+      arith,
+      fits _ _ _ _ (at-start .args .types .now) (at-start .pre .2) (at-loop .loop .inv) (at-loop-test .loop-test .taken)
+          (at-first-operation .first-operation .ensures) (at-record-at .record-at .ensures) (at-start .pre .1),
+      at-start .pre .0 .limits .effects,
+    )
 
 add-k : tie.Need-add-k Inv-loop μ-loop
-add-k c = omega (arith, c .before .before .before .before .before .before .before .before .before .before .before .before .before .before .before .before .loop-test .taken, c .before .before .before .before .before .before .before .before .before .before .before .before .before .before .before .before .before .before .before .before .pre .0 .limits .operations)
+add-k c =
+    let at-root = c .before .before .before .before .before .before .before .before .before .before .before .before in
+    let at-loop-test = at-root .before .before .before .before in
+    let at-start = at-loop-test .before .before .before .before in
+    omega (arith, at-loop-test .loop-test .taken, at-start .pre .0 .limits .operations)
 
 loop-less : tie.Need-loop-less Inv-loop μ-loop
 loop-less c = search needs
 
 loop-again : tie.Need-loop-again Inv-loop μ-loop
-loop-again c = again _ _ _ _ (c .before .before .before .before .before .before .before .before .before .before .before .before .before .before .before .before .before .before .before .before .args .types .now) (c .before .before .before .before .before .before .before .before .before .before .before .before .before .before .before .before .before .before .before .before .pre .2) (c .before .before .before .before .before .before .before .before .before .before .before .before .before .before .before .before .before .loop .inv) (c .before .before .before .before .before .before .before .before .before .before .before .before .before .before .before .before .loop-test .taken) (c .before .before .before .before .before .before .before .before .before .before .before .before .before .before .before .first-operation .ensures) (c .before .before .before .before .before .before .before .before .before .before .before .before .before .before .record-at .ensures) (c .before .before .before .before .before .before .before .before .before .before .before .before .root .ensures) (c .before .before .before .before .before .before .before .before .before .before .before .good-mask .ensures) (c .before .before .before .before .before .before .unused .ensures) (c .before .before .before .before .before .if1 .taken) (c .before .before .before .mark .ensures)
+loop-again c =
+    let at-mark = c .before .before .before in
+    let at-if1 = at-mark .before .before in
+    let at-unused = at-if1 .before in
+    let at-good-mask = at-unused .before .before .before .before .before in
+    let at-root = at-good-mask .before in
+    let at-record-at = at-root .before .before in
+    let at-first-operation = at-record-at .before in
+    let at-loop-test = at-first-operation .before in
+    let at-loop = at-loop-test .before in
+    let at-start = at-loop .before .before .before in
+    again _ _ _ _ (at-start .args .types .now) (at-start .pre .2) (at-loop .loop .inv) (at-loop-test .loop-test .taken)
+    (at-first-operation .first-operation .ensures) (at-record-at .record-at .ensures) (at-root .root .ensures) (at-good-mask .good-mask .ensures)
+    (at-unused .unused .ensures) (at-if1 .if1 .taken) (at-mark .mark .ensures)
 
 same-length : tie.Need-same-length Inv-loop μ-loop
-same-length c = kept (c .before .before .before .before .before .before .before .before .before .before .before .before .loop .inv .names) (c .before .before .before .before .before .before .before .before .before .before .before .before .before .before .before .pre .3)
+same-length c =
+    let at-loop = c .before .before .before .before .before .before .before .before .before .before .before .before in
+    let at-start = at-loop .before .before .before in
+    kept (at-loop .loop .inv .names) (at-start .pre .3)
 
 returns : tie.Need-returns Inv-loop μ-loop
-returns c = (stop _ _ _ _ (c .before .before .before .before .before .before .before .before .before .before .before .before .before .before .before .args .types .now) (c .before .before .before .before .before .before .before .before .before .before .before .before .before .before .before .pre .2) (c .before .before .before .before .before .before .before .before .before .before .before .before .loop .inv) (c .before .before .before .before .before .before .before .before .before .before .before .loop-test .taken) (c .before .before .before .before .before .before .before .before .before .before .first-operation .ensures) (c .before .before .before .before .before .before .before .before .before .record-at .ensures) (c .before .before .before .before .before .before .before .root .ensures) (c .before .before .before .before .before .before .good-mask .ensures) (c .before .unused .ensures) (c .if1 .left), λ l. absurd (omega (arith, c .before .before .before .before .before .before .before .before .before .before .before .loop-test .taken)))
+returns c =
+    let at-good-mask = c .before .before .before .before .before .before in
+    let at-root = at-good-mask .before in
+    let at-record-at = at-root .before .before in
+    let at-first-operation = at-record-at .before in
+    let at-loop-test = at-first-operation .before in
+    let at-loop = at-loop-test .before in
+    let at-start = at-loop .before .before .before in (
+      stop _ _ _ _ (at-start .args .types .now) (at-start .pre .2) (at-loop .loop .inv) (at-loop-test .loop-test .taken)
+          (at-first-operation .first-operation .ensures) (at-record-at .record-at .ensures) (at-root .root .ensures)
+          (at-good-mask .good-mask .ensures) (c .before .unused .ensures) (c .if1 .left),
+      λ l. absurd (omega (arith, at-loop-test .loop-test .taken)),
+    )
 
 same-length-2 : tie.Need-same-length-2 Inv-loop μ-loop
-same-length-2 c = kept (c .before .loop .inv .names) (c .before .before .before .before .pre .3)
+same-length-2 c =
+    let at-start = c .before .before .before .before in
+    kept (c .before .loop .inv .names) (at-start .pre .3)
 
 returns-2 : tie.Need-returns-2 Inv-loop μ-loop
 returns-2 c = finish _ _ _ _ (c .before .loop .inv) (c .loop-test .left)

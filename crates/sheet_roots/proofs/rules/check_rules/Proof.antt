@@ -15,16 +15,22 @@ abbrev μ-loop : tie.MeasureT-loop
 μ-loop s h types tops named₀ n k₀ named k = n - k
 
 loop-holds : tie.Need-loop-holds Inv-loop μ-loop
-loop-holds c = begin _ _ _ (c .before .before .before .pre .2)
+loop-holds c =
+    let at-start = c .before .before .before in
+    begin _ _ _ (at-start .pre .2)
 
 first-rule-requires : tie.Need-first-rule-requires Inv-loop μ-loop
 first-rule-requires c κs = search needs
 
 add-record-at : tie.Need-add-record-at Inv-loop μ-loop
-add-record-at c = omega (arith, c .before .before .before .before .before .before .pre .0 .limits, c .before .before .before .before .before .before .pre .0 .long, c .first-rule .ensures)
+add-record-at c =
+    let at-start = c .before .before .before .before .before .before in
+    omega (arith, at-start .pre .0 .limits, at-start .pre .0 .long, c .first-rule .ensures)
 
 record-at-requires : tie.Need-record-at-requires Inv-loop μ-loop
-record-at-requires c κs = omega (arith, c .before .before .before .before .before .before .pre .0 .limits, c .before .before .before .before .before .before .pre .0 .long, c .first-rule .ensures)
+record-at-requires c κs =
+    let at-start = c .before .before .before .before .before .before in
+    omega (arith, at-start .pre .0 .limits, at-start .pre .0 .long, c .first-rule .ensures)
 
 root-requires : tie.Need-root-requires Inv-loop μ-loop
 root-requires c κs = search needs
@@ -45,22 +51,59 @@ mark-requires : tie.Need-mark-requires Inv-loop μ-loop
 mark-requires c κs = search needs
 
 add-k : tie.Need-add-k Inv-loop μ-loop
-add-k c = omega (arith, c .before .before .before .before .before .before .before .before .before .before .before .before .before .before .loop-test .taken, c .before .before .before .before .before .before .before .before .before .before .before .before .before .before .before .before .before .before .before .pre .0 .limits .rules)
+add-k c =
+    let at-loop-test = c .before .before .before .before .before .before .before .before .before .before .before .before .before .before in
+    let at-start = at-loop-test .before .before .before .before .before in
+    omega (arith, at-loop-test .loop-test .taken, at-start .pre .0 .limits .rules)
 
 loop-less : tie.Need-loop-less Inv-loop μ-loop
 loop-less c = search needs
 
 loop-again : tie.Need-loop-again Inv-loop μ-loop
-loop-again c = again _ _ _ (c .before .before .before .before .before .before .before .before .before .before .before .before .before .before .before .before .before .before .before .pre .1) (c .before .before .before .before .before .before .before .before .before .before .before .before .before .before .before .loop .inv) (c .before .before .before .before .before .before .before .before .before .before .before .before .before .before .loop-test .taken) (c .before .before .before .before .before .before .before .before .before .before .before .before .before .first-rule .ensures) (c .before .before .before .before .before .before .before .before .before .before .before .before .record-at .ensures) (c .before .before .before .before .before .before .before .before .before .before .root .ensures) (c .before .before .before .before .before .before .before .before .before .entry .ensures) (c .before .before .before .before .before .before .before .before .cites-lower .ensures) (c .before .before .before .before .before .before .risen .ensures) (c .before .before .before .before .before .unused .ensures) (c .before .before .before .before .if1 .taken) (c .before .before .mark .ensures)
+loop-again c =
+    let at-mark = c .before .before in
+    let at-if1 = at-mark .before .before in
+    let at-unused = at-if1 .before in
+    let at-risen = at-unused .before in
+    let at-cites-lower = at-risen .before .before in
+    let at-entry = at-cites-lower .before in
+    let at-root = at-entry .before in
+    let at-record-at = at-root .before .before in
+    let at-first-rule = at-record-at .before in
+    let at-loop-test = at-first-rule .before in
+    let at-loop = at-loop-test .before in
+    let at-start = at-loop .before .before .before .before in
+    again _ _ _ (at-start .pre .1) (at-loop .loop .inv) (at-loop-test .loop-test .taken) (at-first-rule .first-rule .ensures)
+    (at-record-at .record-at .ensures) (at-root .root .ensures) (at-entry .entry .ensures) (at-cites-lower .cites-lower .ensures)
+    (at-risen .risen .ensures) (at-unused .unused .ensures) (at-if1 .if1 .taken) (at-mark .mark .ensures)
 
 same-length : tie.Need-same-length Inv-loop μ-loop
-same-length c = kept (c .before .before .before .before .before .before .before .before .before .before .before .loop .inv .names) (c .before .before .before .before .before .before .before .before .before .before .before .before .before .before .before .pre .2)
+same-length c =
+    let at-loop = c .before .before .before .before .before .before .before .before .before .before .before in
+    let at-start = at-loop .before .before .before .before in
+    kept (at-loop .loop .inv .names) (at-start .pre .2)
 
 returns : tie.Need-returns Inv-loop μ-loop
-returns c = (stop _ _ _ (c .before .before .before .before .before .before .before .before .before .before .before .before .before .before .before .pre .1) (c .before .before .before .before .before .before .before .before .before .before .before .loop .inv) (c .before .before .before .before .before .before .before .before .before .before .loop-test .taken) (c .before .before .before .before .before .before .before .before .before .first-rule .ensures) (c .before .before .before .before .before .before .before .before .record-at .ensures) (c .before .before .before .before .before .before .root .ensures) (c .before .before .before .before .before .entry .ensures) (c .before .before .before .before .cites-lower .ensures) (c .before .before .risen .ensures) (c .before .unused .ensures) (c .if1 .left), λ l. absurd (omega (arith, c .before .before .before .before .before .before .before .before .before .before .loop-test .taken)))
+returns c =
+    let at-risen = c .before .before in
+    let at-cites-lower = at-risen .before .before in
+    let at-entry = at-cites-lower .before in
+    let at-root = at-entry .before in
+    let at-record-at = at-root .before .before in
+    let at-first-rule = at-record-at .before in
+    let at-loop-test = at-first-rule .before in
+    let at-loop = at-loop-test .before in
+    let at-start = at-loop .before .before .before .before in (
+      stop _ _ _ (at-start .pre .1) (at-loop .loop .inv) (at-loop-test .loop-test .taken) (at-first-rule .first-rule .ensures)
+          (at-record-at .record-at .ensures) (at-root .root .ensures) (at-entry .entry .ensures) (at-cites-lower .cites-lower .ensures)
+          (at-risen .risen .ensures) (c .before .unused .ensures) (c .if1 .left),
+      λ l. absurd (omega (arith, at-loop-test .loop-test .taken)),
+    )
 
 same-length-2 : tie.Need-same-length-2 Inv-loop μ-loop
-same-length-2 c = kept (c .before .loop .inv .names) (c .before .before .before .before .before .pre .2)
+same-length-2 c =
+    let at-start = c .before .before .before .before .before in
+    kept (c .before .loop .inv .names) (at-start .pre .2)
 
 returns-2 : tie.Need-returns-2 Inv-loop μ-loop
 returns-2 c = finish _ _ _ (c .before .loop .inv) (c .loop-test .left)

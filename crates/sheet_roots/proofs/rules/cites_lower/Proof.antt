@@ -24,7 +24,10 @@ number-requires c κs = search needs
 
 returns-2 : tie.Need-returns-2
 unfolding topLower recordAt
-returns-2 c = rw (ne-eqb _ _ (c .before .before .before .if1 .left), le-leb _ _ (c .before .before .if2 .taken), c .number .ensures, c .before .first-rule .ensures)
+returns-2 c =
+    let at-if2 = c .before .before in
+    let at-if1 = at-if2 .before in
+    rw (ne-eqb _ _ (at-if1 .if1 .left), le-leb _ _ (at-if2 .if2 .taken), c .number .ensures, c .before .first-rule .ensures)
 
 returns-3 : tie.Need-returns-3
 unfolding topLower

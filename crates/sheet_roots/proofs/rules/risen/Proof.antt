@@ -22,7 +22,9 @@ returns c = rw (eq-eqb _ _ (c .if1 .taken))
 
 returns-2 : tie.Need-returns-2
 unfolding recordAt
-returns-2 c = rw (ne-eqb _ _ (c .before .before .if1 .left), c .number .ensures, c .before .first-rule .ensures)
+returns-2 c =
+    let at-if1 = c .before .before in
+    rw (ne-eqb _ _ (at-if1 .if1 .left), c .number .ensures, c .before .first-rule .ensures)
 
 pub risen-spec : {M : Type 1} → statement M
 risen-spec =

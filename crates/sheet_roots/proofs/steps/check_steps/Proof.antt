@@ -21,16 +21,22 @@ first-step-requires : tie.Need-first-step-requires Inv-loop μ-loop
 first-step-requires c κs = search needs
 
 add-record-at : tie.Need-add-record-at Inv-loop μ-loop
-add-record-at c = omega (arith, c .before .before .before .before .before .pre .0 .limits, c .before .before .before .before .before .pre .0 .long, c .first-step .ensures)
+add-record-at c =
+    let at-start = c .before .before .before .before .before in
+    omega (arith, at-start .pre .0 .limits, at-start .pre .0 .long, c .first-step .ensures)
 
 record-at-requires : tie.Need-record-at-requires Inv-loop μ-loop
-record-at-requires c κs = omega (arith, c .before .before .before .before .before .pre .0 .limits, c .before .before .before .before .before .pre .0 .long, c .first-step .ensures)
+record-at-requires c κs =
+    let at-start = c .before .before .before .before .before in
+    omega (arith, at-start .pre .0 .limits, at-start .pre .0 .long, c .first-step .ensures)
 
 root-requires : tie.Need-root-requires Inv-loop μ-loop
 root-requires c κs = search needs
 
 good-kind-requires : tie.Need-good-kind-requires Inv-loop μ-loop
-good-kind-requires c κs = (c .before .before .before .before .before .before .before .before .pre .0, c .before .before .before .before .before .before .before .before .pre .3)
+good-kind-requires c κs =
+    let at-start = c .before .before .before .before .before .before .before .before in
+    (at-start .pre .0, at-start .pre .3)
 
 unused-requires : tie.Need-unused-requires Inv-loop μ-loop
 unused-requires c κs = search needs
@@ -39,25 +45,67 @@ mark-requires : tie.Need-mark-requires Inv-loop μ-loop
 mark-requires c κs = search needs
 
 add-sum : tie.Need-add-sum Inv-loop μ-loop
-add-sum c = omega (arith, fits _ _ _ _ (c .before .before .before .before .before .before .before .before .before .before .before .before .before .before .before .before .before .before .args .types .now) (c .before .before .before .before .before .before .before .before .before .before .before .before .before .before .before .before .before .before .pre .2) (c .before .before .before .before .before .before .before .before .before .before .before .before .before .before .before .loop .inv) (c .before .before .before .before .before .before .before .before .before .before .before .before .before .before .loop-test .taken) (c .before .before .before .before .before .before .before .before .before .before .before .before .before .first-step .ensures) (c .before .before .before .before .before .before .before .before .before .before .before .before .record-at .ensures) (c .before .before .before .before .before .before .before .before .before .before .before .before .before .before .before .before .before .before .pre .1), c .before .before .before .before .before .before .before .before .before .before .before .before .before .before .before .before .before .before .pre .0 .limits .routes)
+add-sum c =
+    let at-record-at = c .before .before .before .before .before .before .before .before .before .before .before .before in
+    let at-first-step = at-record-at .before in
+    let at-loop-test = at-first-step .before in
+    let at-loop = at-loop-test .before in
+    let at-start = at-loop .before .before .before in
+    omega (
+      arith,
+      fits _ _ _ _ (at-start .args .types .now) (at-start .pre .2) (at-loop .loop .inv) (at-loop-test .loop-test .taken)
+          (at-first-step .first-step .ensures) (at-record-at .record-at .ensures) (at-start .pre .1),
+      at-start .pre .0 .limits .routes,
+    )
 
 add-k : tie.Need-add-k Inv-loop μ-loop
-add-k c = omega (arith, c .before .before .before .before .before .before .before .before .before .before .before .before .before .before .loop-test .taken, c .before .before .before .before .before .before .before .before .before .before .before .before .before .before .before .before .before .before .pre .0 .limits .steps)
+add-k c =
+    let at-loop-test = c .before .before .before .before .before .before .before .before .before .before .before .before .before .before in
+    let at-start = at-loop-test .before .before .before .before in
+    omega (arith, at-loop-test .loop-test .taken, at-start .pre .0 .limits .steps)
 
 loop-less : tie.Need-loop-less Inv-loop μ-loop
 loop-less c = search needs
 
 loop-again : tie.Need-loop-again Inv-loop μ-loop
-loop-again c = again _ _ _ _ (c .before .before .before .before .before .before .before .before .before .before .before .before .before .before .before .before .before .before .args .types .now) (c .before .before .before .before .before .before .before .before .before .before .before .before .before .before .before .before .before .before .pre .2) (c .before .before .before .before .before .before .before .before .before .before .before .before .before .before .before .loop .inv) (c .before .before .before .before .before .before .before .before .before .before .before .before .before .before .loop-test .taken) (c .before .before .before .before .before .before .before .before .before .before .before .before .before .first-step .ensures) (c .before .before .before .before .before .before .before .before .before .before .before .before .record-at .ensures) (c .before .before .before .before .before .before .before .before .before .before .root .ensures) (c .before .before .before .before .before .before .before .before .before .good-kind .ensures) (c .before .before .before .before .before .before .before .unused .ensures) (c .before .before .before .before .before .before .if1 .taken) (c .before .before .before .mark .ensures)
+loop-again c =
+    let at-mark = c .before .before .before in
+    let at-if1 = at-mark .before .before .before in
+    let at-unused = at-if1 .before in
+    let at-good-kind = at-unused .before .before in
+    let at-root = at-good-kind .before in
+    let at-record-at = at-root .before .before in
+    let at-first-step = at-record-at .before in
+    let at-loop-test = at-first-step .before in
+    let at-loop = at-loop-test .before in
+    let at-start = at-loop .before .before .before in
+    again _ _ _ _ (at-start .args .types .now) (at-start .pre .2) (at-loop .loop .inv) (at-loop-test .loop-test .taken)
+    (at-first-step .first-step .ensures) (at-record-at .record-at .ensures) (at-root .root .ensures) (at-good-kind .good-kind .ensures)
+    (at-unused .unused .ensures) (at-if1 .if1 .taken) (at-mark .mark .ensures)
 
 same-length : tie.Need-same-length Inv-loop μ-loop
-same-length c = kept (c .before .before .before .before .before .before .before .before .before .loop .inv .names) (c .before .before .before .before .before .before .before .before .before .before .before .before .pre .4)
+same-length c =
+    let at-loop = c .before .before .before .before .before .before .before .before .before in
+    let at-start = at-loop .before .before .before in
+    kept (at-loop .loop .inv .names) (at-start .pre .4)
 
 returns : tie.Need-returns Inv-loop μ-loop
-returns c = stop _ _ _ _ (c .before .before .before .before .before .before .before .before .before .before .before .before .args .types .now) (c .before .before .before .before .before .before .before .before .before .before .before .before .pre .2) (c .before .before .before .before .before .before .before .before .before .loop .inv) (c .before .before .before .before .before .before .before .before .loop-test .taken) (c .before .before .before .before .before .before .before .first-step .ensures) (c .before .before .before .before .before .before .record-at .ensures) (c .before .before .before .before .root .ensures) (c .before .before .before .good-kind .ensures) (c .before .unused .ensures) (c .if1 .left)
+returns c =
+    let at-good-kind = c .before .before .before in
+    let at-root = at-good-kind .before in
+    let at-record-at = at-root .before .before in
+    let at-first-step = at-record-at .before in
+    let at-loop-test = at-first-step .before in
+    let at-loop = at-loop-test .before in
+    let at-start = at-loop .before .before .before in
+    stop _ _ _ _ (at-start .args .types .now) (at-start .pre .2) (at-loop .loop .inv) (at-loop-test .loop-test .taken)
+    (at-first-step .first-step .ensures) (at-record-at .record-at .ensures) (at-root .root .ensures) (at-good-kind .good-kind .ensures)
+    (c .before .unused .ensures) (c .if1 .left)
 
 same-length-2 : tie.Need-same-length-2 Inv-loop μ-loop
-same-length-2 c = kept (c .before .loop .inv .names) (c .before .before .before .before .pre .4)
+same-length-2 c =
+    let at-start = c .before .before .before .before in
+    kept (c .before .loop .inv .names) (at-start .pre .4)
 
 returns-2 : tie.Need-returns-2 Inv-loop μ-loop
 returns-2 c = finish _ _ _ _ (c .before .loop .inv) (c .loop-test .left)
