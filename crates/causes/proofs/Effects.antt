@@ -1,11 +1,12 @@
 -- Some effect of an operation passes a test: what that says, and the scan of the effects.
 -- Assumes nothing.
-use mathlib.Core.Path.{_≡_, sym, _∙_}
-use mathlib.Core.Bool.{Bool, true, false}
+use mathlib.Core.Path.{_≡_, refl, sym, _∙_}
+use mathlib.Core.Bool.{Bool, true, false, not, _&&_, _||_}
 use mathlib.Core.List.{List}
 use mathlib.Core.Logic.{_⊎_, inl, inr}
 use Prim.Native.Nat.{ℕ, _+_, _*_, _≤_, _<_}
 use lib.IntN.{ℤ}
+use lib.Dec.{eqb}
 use lib.ListN.{length}
 use native.Mathlib.Omega.{arith}
 use native.Mathlib.Decide.{decLt}
@@ -22,7 +23,7 @@ use Rattle.operation.specs.declared.Effects.{Effects}
 use Rattle.operation.specs.Inner.{effectsOf}
 use Rattle.operation.proofs.Targets.{first-is, end-is}
 use Rattle.reach.specs.Moves.{leaves, leads}
-use Rattle.causes.specs.Causes.{effectPasses, someEffect}
+use Rattle.causes.specs.Causes.{wanted, effectPasses, someEffect}
 
 -- effect e is one of operation o's, and passes f
 pub record Passes (s : List ℤ) (h : Header) (o : ℕ) (f : Record → Bool) (e : ℕ) : Type 0 where
@@ -60,6 +61,16 @@ unfolding leads
 leads-leaves {s} {h} w o l n a b p =
     let q = some-at s h o (leads n a b) p in
     some-of s h o (leaves n a) w l (q .0) (record { of = q .1 .of; passes = and-left _ _ (q .1 .passes) })
+
+-- the code's test of an effect
+pub wanted-as : (on : Bool) (n a b : ℕ) (r : Record) → (leaves n a r && (not on || eqb (r .w2) b)) ≡ wanted on n a b r
+unfolding wanted leads
+wanted-as true n a b r = refl
+wanted-as false n a b r = and-yes (leaves n a r)
+  where
+    and-yes : (x : Bool) → (x && true) ≡ x
+    and-yes true = refl
+    and-yes false = refl
 
 -- ---- the scan
 

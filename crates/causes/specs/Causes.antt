@@ -2,7 +2,7 @@
 -- Assumes nothing.
 use Prim.Native.Nat.{ℕ}
 use lib.IntN.{ℤ, pos}
-use mathlib.Core.Bool.{Bool, _&&_}
+use mathlib.Core.Bool.{Bool, true, false, _&&_}
 use mathlib.Core.List.{List}
 use lib.Dec.{leb, ltb}
 use Rattle.tables.specs.Scan.{anyBelow}
@@ -10,8 +10,8 @@ use Rattle.signed.specs.Words.{within}
 use Rattle.words.specs.declared.Record.{Record}
 use Rattle.layout.specs.declared.Header.{Header}
 use Rattle.layout.specs.Tables.{operation, effect}
-use Rattle.node.specs.declared.range.Range.{Range}
-use Rattle.records.specs.Nodes.{rangeOf}
+use Rattle.item.specs.declared.Item.{Item}
+use Rattle.records.specs.Nodes.{itemOf}
 use Rattle.records.specs.Operations.{effectsEnd}
 use Rattle.operation.specs.Mask.{allowed}
 use Rattle.reach.specs.Moves.{leaves, leads}
@@ -24,13 +24,18 @@ effectPasses s h o f e = leb (operation s h o .w2) e && ltb e (effectsEnd s h o)
 unfoldable pub someEffect : List ℤ → Header → ℕ → (Record → Bool) → Bool
 someEffect s h o f = anyBelow (effectPasses s h o f) (h .effects)
 
+-- what an effect is looked for by: that it starts from state a of entity n, and with `on` that it leads to state b as well
+unfoldable pub wanted : Bool → ℕ → ℕ → ℕ → Record → Bool
+wanted true n a b = leads n a b
+wanted false n a b = leaves n a
+
 -- a range includes 1
-abbrev pub includesOne : Range → Bool
+abbrev pub includesOne : Item → Bool
 includesOne x = within (x .low) (pos 1) (x .high)
 
 -- "the precondition's range includes 1"
 unfoldable pub canBeTrue : List ℤ → Header → ℕ → Bool
-canBeTrue s h o = includesOne (rangeOf s h (operation s h o .w1))
+canBeTrue s h o = includesOne (itemOf s h (operation s h o .w1))
 
 -- S3a: "yes for (entity, state, persona, operation) if the mask has the persona, an effect starts from that state of that entity, and the
 -- precondition's range includes 1"

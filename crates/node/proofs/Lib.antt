@@ -1,1 +1,6 @@
-pub mod Bounds
+pub mod Judged
+pub mod Truth
+pub mod Lawful
+pub mod FactTypeLaws
+pub mod Few
+pub mod OneKind

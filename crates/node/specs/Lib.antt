@@ -1,3 +1,3 @@
-pub mod Kinds
-pub mod Types
-pub mod Ranges
+pub mod FactTypes
+pub mod Rows
+pub mod Judged

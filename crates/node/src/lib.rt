@@ -1,201 +1,274 @@
-// A node of a predicate: its kind, its children, its type, and its value range.
+// A node by its kind: one arm for each of the kinds 0 to 11, as its row in specs/Rows.antt says.
 ghost use mathlib.Core.Path.{_≡_};
-ghost use Rattle.node.specs.Kinds.{kindOf, hasLeft, hasRight, left, right, goodWords};
-ghost use Rattle.node.specs.Types.{typeFrom, goodTypes, factType, Set};
+ghost use mathlib.Core.Bool.{_&&_};
+ghost use mathlib.Core.List.{[], _∷_};
 ghost use Prim.Native.Nat.{_≤_};
-
-pub mod range;
-
-use layout::Header;
-use signed::bounded;
-use words::Record;
+ghost use Rattle.signed.specs.Words.{num as wordNumber};
+ghost use Rattle.item.specs.Items.{small as smallItem};
+ghost use Rattle.words.specs.Record.{numbersOf, unused as unusedWords};
+ghost use Rattle.node.specs.Rows as rows;
+ghost use Rattle.node.specs.Judged as judged;
+use item::Item;
+use item::both;
+use item::compared;
+use item::difference;
+use item::either;
+use item::multiple;
+use item::negation;
+use item::small;
+use item::span;
+use item::sum;
+use signed::num;
+use signed::within;
+use words::Words;
+use words::numbers_of;
 use words::unused;
 
-// The node kinds 0 to 11, and every other number.
-pub enum Kind {
-    IntLiteral,
-    BoolLiteral,
-    EnumLiteral,
-    Fact,
-    Sum,
-    Difference,
-    Product,
-    Comparison,
-    Verdict,
-    And,
-    Or,
-    Not,
-    Unknown,
+// What a node is worked out from: its words, how many facts and rules there are, the type and range of the fact that it names, and those of
+// its children.
+pub struct Given {
+    pub words: Words,
+    pub facts: usize,
+    pub rules: usize,
+    pub fact: Item,
+    pub x: Item,
+    pub y: Item,
 }
 
-pub fn kind_of(n: usize) -> Kind
-    ensures { λ k. ⌜ k ≡ kindOf n ⌝ }
+// Whether a node is good, and if so its type and range.
+pub struct Found {
+    pub good: bool,
+    pub item: Item,
+}
+
+// The children that a node names: how many, and the first two.
+pub struct Kids {
+    pub count: usize,
+    pub first: usize,
+    pub second: usize,
+}
+
+pub fn bad() -> Found
+    ensures { λ r. ⌜ r ≡ judged.bad ⌝ }
 {
-    match n {
-        0 => Kind::IntLiteral,
-        1 => Kind::BoolLiteral,
-        2 => Kind::EnumLiteral,
-        3 => Kind::Fact,
-        4 => Kind::Sum,
-        5 => Kind::Difference,
-        6 => Kind::Product,
-        7 => Kind::Comparison,
-        8 => Kind::Verdict,
-        9 => Kind::And,
-        10 => Kind::Or,
-        11 => Kind::Not,
-        12.. => Kind::Unknown,
+    let item = span(0, 0, 0);
+    Found { good: false, item }
+}
+
+fn keep(good: bool, item: Item) -> Found
+    ensures { λ r. ⌜ r ≡ judged.keep good item ⌝ }
+{
+    if good {
+        Found { good: true, item }
+    } else {
+        bad()
     }
 }
 
-pub fn has_left(k: Kind) -> bool
-    ensures { λ b. ⌜ b ≡ hasLeft k ⌝ }
+fn numbers(x: Item, y: Item) -> bool
+    ensures { λ r. ⌜ r ≡ rows.numbers x y ⌝ }
 {
-    match k {
-        Kind::IntLiteral => false,
-        Kind::BoolLiteral => false,
-        Kind::EnumLiteral => false,
-        Kind::Fact => false,
-        Kind::Sum => true,
-        Kind::Difference => true,
-        Kind::Product => true,
-        Kind::Comparison => true,
-        Kind::Verdict => false,
-        Kind::And => true,
-        Kind::Or => true,
-        Kind::Not => true,
-        Kind::Unknown => false,
+    (x.sort == y.sort) & (x.sort == 1)
+}
+
+fn bools(x: Item, y: Item) -> bool
+    ensures { λ r. ⌜ r ≡ rows.bools x y ⌝ }
+{
+    (x.sort == 0) & (y.sort == 0)
+}
+
+fn comparable(op: usize, x: Item, y: Item) -> bool
+    ensures { λ r. ⌜ r ≡ rows.comparable op x y ⌝ }
+{
+    (op <= 5) & (x.sort == y.sort) & ((op < 2) | (x.sort == 1))
+}
+
+// The node of item x, where its words past `used` are 0, its kind takes what it is given, and x lies in −M..M.
+fn checked(used: usize, g: Given, takes: bool, x: Item) -> Found
+    ensures { λ r. ⌜ r ≡ judged.keep (unusedWords used (numbersOf (g .words)) && takes && smallItem x) x ⌝ }
+{
+    let w = g.words;
+    keep(unused(used, numbers_of(w)) & takes & small(x), x)
+}
+
+fn literal(g: Given, used: usize, low: i64, high: i64, t: usize, m: usize) -> Found
+    requires { ⌜ (t ≤ 2) × (m ≤ 127) ⌝ }
+    ensures { λ r. ⌜ r ≡ judged.judged (rows.literal used low high t m) g ⌝ }
+{
+    let w = g.words;
+    let part = num(w.w2);
+    if part <= m {
+        checked(used, g, within(low, w.w1, high), span(t + part, w.w1, w.w1))
+    } else {
+        bad()
     }
 }
 
-pub fn has_right(k: Kind) -> bool
-    ensures { λ b. ⌜ b ≡ hasRight k ⌝ }
+fn fact_named(g: Given) -> Found
+    ensures { λ r. ⌜ r ≡ judged.judged rows.factNamed g ⌝ }
 {
-    match k {
-        Kind::IntLiteral => false,
-        Kind::BoolLiteral => false,
-        Kind::EnumLiteral => false,
-        Kind::Fact => false,
-        Kind::Sum => true,
-        Kind::Difference => true,
-        Kind::Product => false,
-        Kind::Comparison => true,
-        Kind::Verdict => false,
-        Kind::And => true,
-        Kind::Or => true,
-        Kind::Not => false,
-        Kind::Unknown => false,
+    let w = g.words;
+    let f = g.fact;
+    checked(2, g, num(w.w1) < g.facts, f)
+}
+
+fn sums(g: Given) -> Found
+    requires { ⌜ judged.Ready g ⌝ }
+    ensures { λ r. ⌜ r ≡ judged.judged rows.sums g ⌝ }
+{
+    let x = g.x;
+    let y = g.y;
+    checked(3, g, numbers(x, y), sum(x, y))
+}
+
+fn differences(g: Given) -> Found
+    requires { ⌜ judged.Ready g ⌝ }
+    ensures { λ r. ⌜ r ≡ judged.judged rows.differences g ⌝ }
+{
+    let x = g.x;
+    let y = g.y;
+    checked(3, g, numbers(x, y), difference(x, y))
+}
+
+fn product(g: Given) -> Found
+    requires { ⌜ judged.Ready g ⌝ }
+    ensures { λ r. ⌜ r ≡ judged.judged rows.product g ⌝ }
+{
+    let w = g.words;
+    let x = g.x;
+    if within(0, w.w2, 1_000_000_000) {
+        checked(3, g, x.sort == 1, multiple(w.w2, x))
+    } else {
+        bad()
     }
 }
 
-pub fn left(k: Kind, r: Record) -> usize
-    ensures { λ n. ⌜ n ≡ left k r ⌝ }
+fn comparison(g: Given) -> Found
+    requires { ⌜ judged.Ready g ⌝ }
+    ensures { λ r. ⌜ r ≡ judged.judged rows.comparison g ⌝ }
+{
+    let w = g.words;
+    let x = g.x;
+    let y = g.y;
+    let op = num(w.w1);
+    checked(4, g, comparable(op, x, y), compared(op, x, y))
+}
+
+fn present(g: Given) -> Found
+    ensures { λ r. ⌜ r ≡ judged.judged rows.present g ⌝ }
+{
+    let w = g.words;
+    checked(2, g, num(w.w1) < g.rules, span(0, 0, 1))
+}
+
+fn conjunction(g: Given) -> Found
+    requires { ⌜ judged.Ready g ⌝ }
+    ensures { λ r. ⌜ r ≡ judged.judged rows.conjunction g ⌝ }
+{
+    let x = g.x;
+    let y = g.y;
+    checked(3, g, bools(x, y), both(x, y))
+}
+
+fn disjunction(g: Given) -> Found
+    requires { ⌜ judged.Ready g ⌝ }
+    ensures { λ r. ⌜ r ≡ judged.judged rows.disjunction g ⌝ }
+{
+    let x = g.x;
+    let y = g.y;
+    checked(3, g, bools(x, y), either(x, y))
+}
+
+fn negated(g: Given) -> Found
+    requires { ⌜ judged.Ready g ⌝ }
+    ensures { λ r. ⌜ r ≡ judged.judged rows.negated g ⌝ }
+{
+    let x = g.x;
+    checked(2, g, x.sort == 0, negation(x))
+}
+
+// A node of kind number k.
+pub fn judge(k: usize, g: Given) -> Found
+    requires { ⌜ judged.Ready g ⌝ }
+    ensures { λ r. ⌜ r ≡ judged.judged (rows.rowOf k) g ⌝ }
 {
     match k {
-        Kind::IntLiteral => r.w1,
-        Kind::BoolLiteral => r.w1,
-        Kind::EnumLiteral => r.w1,
-        Kind::Fact => r.w1,
-        Kind::Sum => r.w1,
-        Kind::Difference => r.w1,
-        Kind::Product => r.w1,
-        Kind::Comparison => r.w2,
-        Kind::Verdict => r.w1,
-        Kind::And => r.w1,
-        Kind::Or => r.w1,
-        Kind::Not => r.w1,
-        Kind::Unknown => r.w1,
+        0 => literal(g, 2, -1_000_000_000, 1_000_000_000, 1, 0),
+        1 => literal(g, 2, 0, 1, 0, 0),
+        2 => literal(g, 3, 0, 255, 2, 127),
+        3 => fact_named(g),
+        4 => sums(g),
+        5 => differences(g),
+        6 => product(g),
+        7 => comparison(g),
+        8 => present(g),
+        9 => conjunction(g),
+        10 => disjunction(g),
+        11 => negated(g),
+        12.. => bad(),
     }
 }
 
-pub fn right(k: Kind, r: Record) -> usize
-    ensures { λ n. ⌜ n ≡ right k r ⌝ }
+fn no_kids() -> Kids
+    ensures { λ r. ⌜ judged.kids r ≡ [] ⌝ }
 {
-    match k {
-        Kind::IntLiteral => r.w2,
-        Kind::BoolLiteral => r.w2,
-        Kind::EnumLiteral => r.w2,
-        Kind::Fact => r.w2,
-        Kind::Sum => r.w2,
-        Kind::Difference => r.w2,
-        Kind::Product => r.w2,
-        Kind::Comparison => r.w3,
-        Kind::Verdict => r.w2,
-        Kind::And => r.w2,
-        Kind::Or => r.w2,
-        Kind::Not => r.w2,
-        Kind::Unknown => r.w2,
+    Kids {
+        count: 0,
+        first: 0,
+        second: 0,
     }
 }
 
-pub fn good_words(h: Header, k: Kind, r: Record, v: i64) -> bool
-    ensures { λ b. ⌜ b ≡ goodWords h k r v ⌝ }
+// The child in word 1.
+fn one_kid(w: Words) -> Kids
+    ensures { λ r. ⌜ judged.kids r ≡ (wordNumber (w .w1) ∷ []) ⌝ }
 {
-    let small = bounded(v);
-    let unused2 = unused(2, r);
-    let unused3 = unused(3, r);
-    let unused4 = unused(4, r);
-    match k {
-        Kind::IntLiteral => small & unused2,
-        Kind::BoolLiteral => (r.w1 <= 1) & unused2,
-        Kind::EnumLiteral => (r.w1 <= 255) & (r.w2 <= 127) & unused3,
-        Kind::Fact => (r.w1 < h.facts) & unused2,
-        Kind::Sum => unused3,
-        Kind::Difference => unused3,
-        Kind::Product => (r.w2 <= 1_000_000_000) & unused3,
-        Kind::Comparison => (r.w1 <= 5) & unused4,
-        Kind::Verdict => (r.w1 < h.rules) & unused2,
-        Kind::And => unused3,
-        Kind::Or => unused3,
-        Kind::Not => unused2,
-        Kind::Unknown => false,
+    Kids {
+        count: 1,
+        first: num(w.w1),
+        second: 0,
     }
 }
 
-pub fn fact_type(f: Record) -> usize
-    requires { ⌜ f .w5 ≤ 127 ⌝ }
-    ensures { λ t. ⌜ t ≡ factType f ⌝ }
+// The children in words 1 and 2.
+fn two_kids(w: Words) -> Kids
+    ensures { λ r. ⌜ judged.kids r ≡ (wordNumber (w .w1) ∷ wordNumber (w .w2) ∷ []) ⌝ }
 {
-    if f.w0 == 2 { 2 + f.w5 } else { f.w0 }
-}
-
-pub fn type_from(k: Kind, r: Record, f: usize) -> usize
-    requires { ⌜ Set k r ⌝ }
-    ensures { λ t. ⌜ t ≡ typeFrom k r f ⌝ }
-{
-    match k {
-        Kind::IntLiteral => 1,
-        Kind::BoolLiteral => 0,
-        Kind::EnumLiteral => 2 + r.w2,
-        Kind::Fact => f,
-        Kind::Sum => 1,
-        Kind::Difference => 1,
-        Kind::Product => 1,
-        Kind::Comparison => 0,
-        Kind::Verdict => 0,
-        Kind::And => 0,
-        Kind::Or => 0,
-        Kind::Not => 0,
-        Kind::Unknown => 0,
+    Kids {
+        count: 2,
+        first: num(w.w1),
+        second: num(w.w2),
     }
 }
 
-pub fn good_types(k: Kind, op: usize, a: usize, b: usize) -> bool
-    ensures { λ r. ⌜ r ≡ goodTypes k op a b ⌝ }
+// The children in words 2 and 3.
+fn later_kids(w: Words) -> Kids
+    ensures { λ r. ⌜ judged.kids r ≡ (wordNumber (w .w2) ∷ wordNumber (w .w3) ∷ []) ⌝ }
+{
+    Kids {
+        count: 2,
+        first: num(w.w2),
+        second: num(w.w3),
+    }
+}
+
+// The children of a node of kind number k.
+pub fn children(k: usize, w: Words) -> Kids
+    ensures { λ r. ⌜ judged.kids r ≡ rows.rowOf k .children w ⌝ }
 {
     match k {
-        Kind::IntLiteral => true,
-        Kind::BoolLiteral => true,
-        Kind::EnumLiteral => true,
-        Kind::Fact => true,
-        Kind::Sum => (a == 1) & (b == 1),
-        Kind::Difference => (a == 1) & (b == 1),
-        Kind::Product => a == 1,
-        Kind::Comparison => if op < 2 { a == b } else { (a == 1) & (b == 1) },
-        Kind::Verdict => true,
-        Kind::And => (a == 0) & (b == 0),
-        Kind::Or => (a == 0) & (b == 0),
-        Kind::Not => a == 0,
-        Kind::Unknown => false,
+        0 => no_kids(),
+        1 => no_kids(),
+        2 => no_kids(),
+        3 => no_kids(),
+        4 => two_kids(w),
+        5 => two_kids(w),
+        6 => one_kid(w),
+        7 => later_kids(w),
+        8 => no_kids(),
+        9 => two_kids(w),
+        10 => two_kids(w),
+        11 => one_kid(w),
+        12.. => no_kids(),
     }
 }

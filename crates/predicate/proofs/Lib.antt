@@ -1,7 +1,5 @@
 pub mod BaseLaws
-pub mod ExprLaws
-pub mod Truth
-pub mod KindRange
+pub mod KindLaws
 pub mod ValueLaws
 pub mod VerdictLaws
 pub mod RangeLaws

@@ -1,43 +1,50 @@
 -- No node's value range is empty, and a comparison's range goes by the pairs of values from the ranges of its children.
 -- Assumes nothing.
-use mathlib.Core.Path.{_≡_, refl, ap}
+use mathlib.Core.Path.{_≡_, refl, sym, ap, subst, _∙_}
 use mathlib.Core.Bool.{Bool, true, false, cond, false≢true}
-use mathlib.Core.List.{List}
+use mathlib.Core.List.{List, [], _∷_}
 use mathlib.Core.Logic.{_↔_, Iff·trans}
-use Prim.Native.Nat.{ℕ, _<_}
+use Prim.Native.Nat.{ℕ, _+_, _<_}
 use lib.IntN.{ℤ, pos}
 use native.Mathlib.Omega.{arith}
 use Rattle.tables.specs.Table.{grown, entry}
+use Rattle.tables.specs.Lists.{pick}
+use Rattle.tables.proofs.Bools.{and-right}
+use Rattle.tables.proofs.Lists.{Before}
 use Rattle.tables.proofs.Grown.{length-grown, grown-at}
 use Rattle.signed.specs.Compare.{Pair, canHold, canFail}
 use Rattle.signed.proofs.Parts.{Le}
 use Rattle.signed.proofs.Order.{le-refl}
 use Rattle.signed.proofs.Bounds.{true-in}
 use Rattle.signed.proofs.Pairs.{can-hold, can-fail}
-use Rattle.words.specs.Record.{word}
+use Rattle.signed.specs.Words.{num, bounded, within}
 use Rattle.layout.specs.declared.Header.{Header}
-use Rattle.layout.specs.Tables.{node}
-use Rattle.node.specs.declared.Kind.the-variants.{Comparison}
-use Rattle.node.specs.declared.range.Range.{Range}
-use Rattle.node.specs.Kinds.{hasLeft, hasRight}
-use Rattle.node.specs.Ranges.{span, comparedSpan, rangeFrom}
+use Rattle.layout.specs.Header.{headerOf, firstNode}
+use Rattle.item.specs.declared.Item.{Item}
+use Rattle.item.specs.Items.{none, span, compared, Small}
+use Rattle.node.specs.declared.Given.{Given}
+use Rattle.node.specs.declared.Kids.{Kids}
+use Rattle.node.specs.Rows.{Row, comparison, rowOf}
+use Rattle.node.specs.Judged.{kids, fits, keep, judged}
 use Rattle.records.specs.Accepted.{Accepted}
-use Rattle.records.specs.Nodes.{nodeKind, leftOf, rightOf, rangeStep, rangeOf}
+use Rattle.records.specs.Facts.{minOf}
+use Rattle.records.specs.Nodes.{nodeWords, nodeRow, childrenOf, namedFact, givenOf, itemOf, goodChildren, namedByNodes, goodNode}
 use Rattle.records.proofs.FactLaws.{fact-ok}
 use Rattle.records.proofs.NodeLaws.{node-ok}
 use Rattle.facts.specs.Assembled.{FactsIn}
 use Rattle.predicate.specs.Verdicts.{verdictsOf}
-use Rattle.predicate.proofs.KindRange.{Within}
-use Rattle.predicate.proofs.ValueLaws.{value-in}
+use Rattle.predicate.specs.Base.{rowAt, childrenAt, givenAt, RangeAt}
+use Rattle.predicate.proofs.BaseLaws.{ranged, none-named, one-named, two-named}
+use Rattle.predicate.proofs.ValueLaws.{Within, value-in}
 use Rattle.predicate.proofs.VerdictLaws.{verdicts-true}
 
 -- a "pair of values from the two ranges", whose comparison comes to t
-abbrev pub PairIn : ℕ → Bool → Range → Range → Type 0
+abbrev pub PairIn : ℕ → Bool → Item → Item → Type 0
 PairIn op t x y = Pair op t (x .low) (x .high) (y .low) (y .high)
 
 -- a range from two tests: whether it includes 0, and whether it includes 1
-abbrev tested : Bool → Bool → Range
-tested f t = span (cond f (pos 0) (pos 1)) (cond t (pos 1) (pos 0))
+abbrev tested : Bool → Bool → Item
+tested f t = span 0 (cond f (pos 0) (pos 1)) (cond t (pos 1) (pos 0))
 
 has-one : (f t : Bool) → Within (tested f t) (pos 1) ↔ (t ≡ true)
 has-one true true = (λ _. refl, λ _. omega arith)
@@ -49,44 +56,111 @@ has-zero true true = (λ _. refl, λ _. omega arith)
 has-zero true false = (λ _. refl, λ _. omega arith)
 has-zero false t = (λ i. absurd (omega arith), λ e. absurd (false≢true e))
 
-module _ (op : ℕ) (x y : Range) (p : Le (x .low) (x .high)) (q : Le (y .low) (y .high)) where
-  compared-one : Within (comparedSpan op x y) (pos 1) ↔ PairIn op true x y
-  unfolding comparedSpan
+module _ (op : ℕ) (x y : Item) (p : Le (x .low) (x .high)) (q : Le (y .low) (y .high)) where
+  compared-one : Within (compared op x y) (pos 1) ↔ PairIn op true x y
   compared-one = Iff·trans (has-one (canFail op (x .low) (x .high) (y .low) (y .high)) _) (can-hold op p q)
 
-  compared-zero : Within (comparedSpan op x y) (pos 0) ↔ PairIn op false x y
-  unfolding comparedSpan
+  compared-zero : Within (compared op x y) (pos 0) ↔ PairIn op false x y
   compared-zero = Iff·trans (has-zero _ (canHold op (x .low) (x .high) (y .low) (y .high))) (can-fail op p q)
 
 module _ {s : List ℤ} {h : Header} (a : Accepted s h) where
   -- every fact at its min
   abbrev least : List ℤ
-  least = grown (λ _ k. word s k 1) (pos 0) (h .facts)
+  least = grown (λ _ k. minOf s k) (pos 0) (h .facts)
 
   least-in : FactsIn s h least
   unfolding entry
   least-in =
       record {
-        long = length-grown (λ _ k. word s k 1) (pos 0) (h .facts);
-        each = λ k l. rw (grown-at (λ _ k. word s k 1) (pos 0) (h .facts) k l) (true-in _ _ _ (record { low = le-refl (word s k 1); high = fact-ok s k (a .facts k l) .order }));
+        long = length-grown (λ _ k. minOf s k) (pos 0) (h .facts);
+        each = λ k l. rw (grown-at (λ _ k. minOf s k) (pos 0) (h .facts) k l) (true-in _ _ _ (record { low = le-refl (minOf s k); high = fact-ok s k (a .facts k l) .bounds .order }));
       }
 
   -- 01: "Every node has a value range": one that is not empty
-  pub range-some : (n : ℕ) → n < h .nodes → Le (rangeOf s h n .low) (rangeOf s h n .high)
+  pub range-some : (n : ℕ) → n < h .nodes → Le (itemOf s h n .low) (itemOf s h n .high)
   range-some n l = omega (arith, value-in s h least (verdictsOf s h least) a least-in (verdicts-true s h least) n l)
 
-  module _ (n : ℕ) (l : n < h .nodes) (k : nodeKind s h n ≡ Comparison) where
-    before : (leftOf s h n < n) × (rightOf s h n < n)
-    before = let p = node-ok s h n (a .nodes n l) in (p .left (ap hasLeft k) .0, p .right (ap hasRight k) .0)
+  module _ (n : ℕ) (l : n < h .nodes) (k : num (nodeWords s h n .w0) ≡ 7) where
+    -- the operator and the children of a comparison
+    abbrev op : ℕ
+    op = num (nodeWords s h n .w1)
 
-    compared : rangeOf s h n ≡ comparedSpan (node s h n .w1) (rangeOf s h (leftOf s h n)) (rangeOf s h (rightOf s h n))
-    unfolding entry rangeStep rangeFrom
-    compared = rw (← grown-at (rangeStep s h) (span (pos 0) (pos 0)) n _ (before .0), ← grown-at (rangeStep s h) (span (pos 0) (pos 0)) n _ (before .1), k)
+    abbrev left : Item
+    left = itemOf s h (num (nodeWords s h n .w2))
+
+    abbrev right : Item
+    right = itemOf s h (num (nodeWords s h n .w3))
+
+    row-is : nodeRow s h n ≡ comparison
+    unfolding rowOf
+    row-is = rw k
+
+    before : Before n (num (nodeWords s h n .w2) ∷ num (nodeWords s h n .w3) ∷ [])
+    before = subst (λ (r : Row). Before n (r .children (nodeWords s h n))) row-is (node-ok s h n (a .nodes n l) .before)
+
+    abbrev given : Row → Given
+    given r =
+        record {
+          words = nodeWords s h n;
+          facts = h .facts;
+          rules = h .rules;
+          fact = namedFact s h op;
+          x = pick (itemOf s h) none (r .children (nodeWords s h n)) 0;
+          y = pick (itemOf s h) none (r .children (nodeWords s h n)) 1;
+        }
+
+    compared-is : itemOf s h n ≡ compared op left right
+    unfolding pick
+    compared-is = node-ok s h n (a .nodes n l) .item ∙ ap (λ (r : Row). r .gives (given r)) row-is
 
     -- 01: "Comparison: includes 1 if some pair of values from the two ranges satisfies it", and only then
-    pub includes-one : Within (rangeOf s h n) (pos 1) ↔ PairIn (node s h n .w1) true (rangeOf s h (leftOf s h n)) (rangeOf s h (rightOf s h n))
-    includes-one = rw compared (compared-one _ _ _ (range-some _ (omega (arith, before))) (range-some _ (omega (arith, before))))
+    pub includes-one : Within (itemOf s h n) (pos 1) ↔ PairIn op true left right
+    includes-one = rw compared-is (compared-one op left right (range-some _ (omega (arith, before .0))) (range-some _ (omega (arith, before .1 .0))))
 
     -- 01: "and 0 if some pair does not", and only then
-    pub includes-zero : Within (rangeOf s h n) (pos 0) ↔ PairIn (node s h n .w1) false (rangeOf s h (leftOf s h n)) (rangeOf s h (rightOf s h n))
-    includes-zero = rw compared (compared-zero _ _ _ (range-some _ (omega (arith, before))) (range-some _ (omega (arith, before))))
+    pub includes-zero : Within (itemOf s h n) (pos 0) ↔ PairIn op false left right
+    includes-zero = rw compared-is (compared-zero op left right (range-some _ (omega (arith, before .0))) (range-some _ (omega (arith, before .1 .0))))
+
+-- ---- a node's range as it is worked out
+
+pub none-small : Small none
+unfolding bounded within
+none-small = record { low = refl; high = refl }
+
+-- a good node's item is what its row gives
+judged-item : (s : List ℤ) (h : Header) (n : ℕ) → goodNode s h n ≡ true → judged (nodeRow s h n) (givenOf s h (itemOf s h) n) .item ≡ itemOf s h n
+unfolding goodNode judged keep
+judged-item s h n p =
+    rw (and-right (goodChildren n (namedByNodes s h n) (childrenOf s h n)) (fits (nodeRow s h n) (givenOf s h (itemOf s h) n)) p) (sym (node-ok s h n p .item))
+
+module _ {s : List ℤ} {base rules n : ℕ} (v : RangeAt s base rules n) where
+  abbrev item : ℕ → Item
+  item j = itemOf s (headerOf s) j
+
+  pub item-small : Small (item n)
+  item-small = node-ok s (headerOf s) n (v .accepted .nodes n (v .exists)) .fits
+
+  abbrev from : ℕ → ℕ → Item → Item → Item
+  from first few x y = judged (rowAt s (first + n)) (givenAt s first few (first + n) x y) .item
+
+  met : (x y : Item) (cs : List ℕ) → childrenOf s (headerOf s) n ≡ cs → x ≡ pick item none cs 0 → y ≡ pick item none cs 1 → from base rules x y ≡ item n
+  met x y cs e p q =
+      let h = headerOf s in
+      ap (λ (b : ℕ). from b rules x y) (v .first)
+      ∙ ap (λ (r : ℕ). from (firstNode h) r x y) (v .cited)
+      ∙ ap (λ (z : Item). from (firstNode h) (h .rules) z y) (p ∙ ap (λ (l : List ℕ). pick item none l 0) (sym e))
+      ∙ ap (λ (z : Item). from (firstNode h) (h .rules) (pick item none (childrenOf s h n) 0) z) (q ∙ ap (λ (l : List ℕ). pick item none l 1) (sym e))
+      ∙ judged-item s h n (v .accepted .nodes n (v .exists))
+
+  module _ (c : Kids) (k : kids c ≡ childrenAt s (base + n)) where
+    pub range-none : c .count ≡ 0 → from base rules none none ≡ item n
+    unfolding pick
+    range-none e = met none none [] (none-named (ranged v) c k e) refl refl
+
+    pub range-one : {x : Item} → c .count ≡ 1 → x ≡ item (c .first) → from base rules x none ≡ item n
+    unfolding pick
+    range-one e p = met _ none (c .first ∷ []) (one-named (ranged v) c k e) p refl
+
+    pub range-two : {x y : Item} → (c .count ≡ 0 → ⊥) → (c .count ≡ 1 → ⊥) → x ≡ item (c .first) → y ≡ item (c .second) → from base rules x y ≡ item n
+    unfolding pick
+    range-two d e p q = met _ _ (c .first ∷ c .second ∷ []) (two-named (ranged v) c k d e) p q

@@ -1,219 +1,155 @@
 -- The value of a node from those of its children, and that it lies in the node's range.
 -- Assumes nothing.
 use mathlib.Core.Path.{_≡_, refl, sym, ap, subst, _∙_}
-use mathlib.Core.Bool.{true, false, not, _&&_, _||_}
-use mathlib.Core.List.{List}
-use Prim.Native.Nat.{ℕ, _+_, _≤_, _<_}
+use mathlib.Core.Bool.{Bool, true}
+use mathlib.Core.List.{List, [], _∷_}
+use Prim.Native.Nat.{ℕ, zero, suc, _+_, _<_}
 use lib.IntN.{ℤ, pos}
-use lib.ListN.{length, getD}
+use lib.ListN.{getD}
+use lib.Dec.{ltb}
 use native.Mathlib.Omega.{arith}
-use Rattle.tables.specs.Table.{grown, entry}
-use Rattle.tables.proofs.Grown.{grown-at}
-use Rattle.signed.specs.Words.{bounded}
-use Rattle.signed.specs.Compare.{holds}
+use borrow.Author.Tests.{ltb-true}
+use Rattle.tables.specs.Lists.{pick}
+use Rattle.tables.proofs.Grown.{entry-from, strong}
+use Rattle.tables.proofs.Lists.{Before, pick-same}
+use Rattle.signed.specs.Words.{num, bounded}
 use Rattle.signed.proofs.Parts.{eq-true}
-use Rattle.signed.proofs.Bounds.{In, in-true, small-in, true-small}
-use Rattle.signed.proofs.Numbers.{num-is}
-use Rattle.words.specs.declared.Record.{Record}
-use Rattle.words.specs.Record.{word, number, recordAt}
+use Rattle.signed.proofs.Order.{le-refl}
+use Rattle.signed.proofs.Bounds.{In, in-true, small-in, small-true, true-small}
 use Rattle.layout.specs.declared.Header.{Header}
 use Rattle.layout.specs.Header.{headerOf, firstNode}
-use Rattle.layout.specs.Tables.{fact, node}
-use Rattle.node.specs.declared.Kind.{Kind}
-use Rattle.node.specs.declared.Kind.the-variants.{IntLiteral, BoolLiteral, EnumLiteral, Fact, Sum, Difference, Product, Comparison, Verdict, And, Or, Not, Unknown}
-use Rattle.node.specs.declared.range.Range.{Range}
-use Rattle.node.specs.Kinds.{hasLeft, hasRight}
-use Rattle.node.specs.Types.{factType, typeFrom}
-use Rattle.node.specs.Ranges.{span}
+use Rattle.item.specs.declared.Item.{Item}
+use Rattle.item.specs.Items.{none}
+use Rattle.node.specs.declared.Kids.{Kids}
+use Rattle.node.specs.Rows.{Seen}
+use Rattle.node.specs.Judged.{kids}
+use Rattle.node.proofs.Truth.{IsBool}
+use Rattle.node.proofs.Lawful.{Of, Known, lawful}
 use Rattle.records.specs.Accepted.{Accepted}
-use Rattle.records.specs.Nodes.{nodeKind, leftOf, rightOf, typeOf, rangeStep, rangeOf}
-use Rattle.records.proofs.FactLaws.{fact-ok, type-bool}
-use Rattle.records.proofs.NodeLaws.{NodeOk, node-ok}
+use Rattle.records.specs.Facts.{minOf, maxOf, factItem}
+use Rattle.records.specs.Nodes.{nodeWords, nodeRow, childrenOf, namedFact, givenOf, itemOf}
+use Rattle.records.proofs.FactLaws.{fact-ok}
+use Rattle.records.proofs.NodeLaws.{node-ok}
 use Rattle.facts.specs.Assembled.{FactsIn}
-use Rattle.predicate.specs.declared.Unary.{Unary}
-use Rattle.predicate.specs.declared.Binary.{Binary}
-use Rattle.layout.specs.declared.Node.{Node}
-use Rattle.predicate.specs.declared.Expr.{Expr}
-use Rattle.predicate.specs.declared.Expr.the-variants.{Literal, FactOf, Present, One, Two}
-use Rattle.predicate.specs.Exprs.{exprFrom, exprOf}
-use Rattle.predicate.specs.Values.{isTrue, one, two, decides, valueFrom, valueStep, valueOf, truth, Truths, SmallFactor}
-use Rattle.predicate.specs.Base.{EvaluableAt}
-use Rattle.predicate.proofs.BaseLaws.{there}
-use Rattle.predicate.proofs.ExprLaws.{strong, Each, read-literal, read-fact, named-as}
-use Rattle.predicate.proofs.Truth.{IsBool, bit-bool, decided}
-use Rattle.predicate.proofs.KindRange.{Within, Ready, value-in-range}
+use Rattle.predicate.specs.Values.{seenOf, valueStep, valueOf, truth, Truths}
+use Rattle.predicate.specs.Base.{rowAt, childrenAt, seenAt, EvaluableAt}
+use Rattle.predicate.proofs.BaseLaws.{there, none-named, one-named, two-named}
+use Rattle.predicate.proofs.KindLaws.{decided}
 
--- an expression comes out alike under verdicts and children's values that agree where it looks
-pub same-value : (facts v w : List ℤ) (U : Unary → Type 0) (look look′ : ℕ → ℤ) (e : Expr) → Each (λ k. Unit {0}) (λ c. getD v c (pos 0) ≡ getD w c (pos 0)) U (λ a. look a ≡ look′ a) e → valueFrom facts v look e ≡ valueFrom facts w look′ e
-unfolding valueFrom
-same-value facts v w U look look′ (Literal x) p = refl
-same-value facts v w U look look′ (FactOf k) p = refl
-same-value facts v w U look look′ (Present c) p = p
-same-value facts v w U look look′ (One op a) p = rw (p .1)
-same-value facts v w U look look′ (Two op a b) p = rw (p .0, p .1)
+-- the value x lies in the range
+abbrev pub Within : Item → ℤ → Type 0
+Within f x = In (f .low) x (f .high)
+
+none-of : Of none (pos 0)
+none-of = record { inside = record { low = le-refl (pos 0); high = le-refl (pos 0) }; bool = λ z. omega arith }
+
+-- what holds of each child's value holds of the one that is picked
+pick-of : (f : ℕ → Item) (g : ℕ → ℤ) (n : ℕ) (cs : List ℕ) (i : ℕ) → Before n cs → ((j : ℕ) → j < n → Of (f j) (g j)) → Of (pick f none cs i) (pick g (pos 0) cs i)
+unfolding pick
+pick-of f g n [] i b h = none-of
+pick-of f g n (c ∷ cs) zero b h = h c (b .0)
+pick-of f g n (c ∷ cs) (suc i) b h = pick-of f g n cs i (b .1) h
 
 module _ (s : List ℤ) (h : Header) (facts verdicts : List ℤ) where
   abbrev value : ℕ → ℤ
   value n = valueOf s h facts verdicts n
 
-  -- the values of the nodes before n
-  abbrev pub look : ℕ → ℕ → ℤ
-  look n j = getD (grown (valueStep s h facts verdicts) (pos 0) n) j (pos 0)
+  seen-same : (n : ℕ) → Before n (childrenOf s h n) → (look : ℕ → ℤ) → ((j : ℕ) → j < n → look j ≡ value j) → seenOf s h facts verdicts look n ≡ seenOf s h facts verdicts value n
+  seen-same n b look e =
+      rw (pick-same look value n e (pos 0) (childrenOf s h n) 0 b, pick-same look value n e (pos 0) (childrenOf s h n) 1 b)
 
-  pub look-below : (n j : ℕ) → j < n → look n j ≡ value j
-  unfolding valueOf
-  look-below n j l = grown-at (valueStep s h facts verdicts) (pos 0) n j l
-
-  pub value-is : (n : ℕ) → value n ≡ valueFrom facts verdicts (look n) (exprOf s h n)
-  unfolding valueOf entry
-  value-is n = refl
-
-  -- by the node's expression
-  value-as : Accepted s h → (n : ℕ) → n < h .nodes → (e : Expr) → exprOf s h n ≡ e → value n ≡ valueFrom facts verdicts value e
-  value-as a n l e q =
-      value-is n
-      ∙ rw q
-      (same-value facts verdicts verdicts SmallFactor (look n) value e
-      (named-as s h n (λ k. Unit {0}) (λ c. getD verdicts c (pos 0) ≡ getD verdicts c (pos 0)) (λ j. look n j ≡ value j) a l (λ k b. tt) (λ c b. refl) (look-below n) e q))
-
-  -- a node of type Bool is 0 or 1; t is the type of the fact that it may name
-  bool-by : (k : Kind) (r : Record) (v m : ℤ) (t : ℕ) (look : ℕ → ℤ) → typeFrom k r t ≡ 0 → (k ≡ BoolLiteral → IsBool v) → (k ≡ Fact → t ≡ 0 → IsBool (getD facts (r .w1) (pos 0))) → (k ≡ Verdict → IsBool (getD verdicts (r .w1) (pos 0))) → IsBool (valueFrom facts verdicts look (exprFrom k r v m))
-  unfolding valueFrom exprFrom one two
-  bool-by IntLiteral r v m t look e b f c = absurd (omega arith)
-  bool-by BoolLiteral r v m t look e b f c = b refl
-  bool-by EnumLiteral r v m t look e b f c = absurd (omega arith)
-  bool-by Fact r v m t look e b f c = f refl e
-  bool-by Sum r v m t look e b f c = absurd (omega arith)
-  bool-by Difference r v m t look e b f c = absurd (omega arith)
-  bool-by Product r v m t look e b f c = absurd (omega arith)
-  bool-by Comparison r v m t look e b f c = bit-bool (holds (r .w1) (look (r .w2)) (look (r .w3)))
-  bool-by Verdict r v m t look e b f c = c refl
-  bool-by And r v m t look e b f c = bit-bool (isTrue (look (r .w1)) && isTrue (look (r .w2)))
-  bool-by Or r v m t look e b f c = bit-bool (isTrue (look (r .w1)) || isTrue (look (r .w2)))
-  bool-by Not r v m t look e b f c = bit-bool (not (isTrue (look (r .w1))))
-  bool-by Unknown r v m t look e b f c = bit-bool false
+  -- by the node's row, from its children's values
+  pub value-is : (n : ℕ) → Before n (childrenOf s h n) → value n ≡ nodeRow s h n .value (seenOf s h facts verdicts value n)
+  unfolding valueOf valueStep
+  value-is n b =
+      entry-from (valueStep s h facts verdicts) (pos 0) n (λ look e. ap (λ (z : Seen). nodeRow s h n .value z) (seen-same n b look e))
 
   -- ---- over facts in their ranges and verdicts
 
   module _ (a : Accepted s h) (f : FactsIn s h facts) (t : Truths verdicts) where
-    fact-in : (k : ℕ) → k < h .facts → Within (span (word s k 1) (word s k 2)) (getD facts k (pos 0))
-    fact-in k l = in-true (word s k 1) (getD facts k (pos 0)) (word s k 2) (f .each k l)
+    fact-in : (k : ℕ) → k < h .facts → In (minOf s k) (getD facts k (pos 0)) (maxOf s k)
+    fact-in k l = in-true (minOf s k) (getD facts k (pos 0)) (maxOf s k) (f .each k l)
 
-    verdict-bool : (k : ℕ) → IsBool (getD verdicts k (pos 0))
-    verdict-bool k = in-true (pos 0) (getD verdicts k (pos 0)) (pos 1) (t .each k)
-
-    -- a fact of type Bool is 0 or 1
-    fact-bool : (k : ℕ) → k < h .facts → factType (fact s k) ≡ 0 → IsBool (getD facts k (pos 0))
-    fact-bool k l e =
-        let q = fact-ok s k (a .facts k l) .bool (type-bool (fact s k) e) in
-        subst (λ (z : ℤ). In (pos 0) (getD facts k (pos 0)) z) (q .1) (subst (λ (z : ℤ). In z (getD facts k (pos 0)) (word s k 2)) (q .0) (fact-in k l))
-
-    literal-bool : (n : ℕ) → node s h n .w1 ≤ 1 → IsBool (word s (firstNode h + n) 1)
-    unfolding recordAt
-    literal-bool n l = rw (num-is (word s (firstNode h + n) 1) (omega arith)) (omega arith)
-
-    -- a Bool node is 0 or 1
-    pub value-bool : (n : ℕ) → n < h .nodes → typeOf s h n ≡ 0 → IsBool (value n)
-    unfolding exprOf typeOf
-    value-bool n l e =
-        let p = node-ok s h n (a .nodes n l) in
-        rw (value-is n)
-        (bool-by (nodeKind s h n) (node s h n) (word s (firstNode h + n) 1) (word s (firstNode h + n) 2) (factType (fact s (node s h n .w1))) (look n) e
-        (λ b. literal-bool n (p .bool b)) (λ b q. fact-bool (node s h n .w1) (p .fact b) q) (λ b. verdict-bool (node s h n .w1)))
-
-    -- the ranges of the nodes before n
-    abbrev ranges : ℕ → ℕ → Range
-    ranges n j = getD (grown (rangeStep s h) (span (pos 0) (pos 0)) n) j (span (pos 0) (pos 0))
-
-    ranges-below : (n j : ℕ) → j < n → ranges n j ≡ rangeOf s h j
-    ranges-below n j l = grown-at (rangeStep s h) (span (pos 0) (pos 0)) n j l
-
-    -- what holds of a child's value holds of it as node n sees it
-    seen-bool : (n j : ℕ) → j < n → n < h .nodes → typeOf s h j ≡ 0 → IsBool (look n j)
-    seen-bool n j l q e = rw (look-below n j l) (value-bool j (omega arith) e)
-
-    seen-in : (n j : ℕ) → j < n → Within (rangeOf s h j) (value j) → Within (ranges n j) (look n j)
-    seen-in n j l i = rw (look-below n j l, ranges-below n j l) i
-
-    bools : (n : ℕ) → n < h .nodes → NodeOk s h n → hasLeft (nodeKind s h n) ≡ true → hasRight (nodeKind s h n) ≡ true → (typeOf s h (leftOf s h n) ≡ 0) × (typeOf s h (rightOf s h n) ≡ 0) → IsBool (look n (leftOf s h n)) × IsBool (look n (rightOf s h n))
-    bools n l p e f q = (seen-bool n (leftOf s h n) (p .left e .0) l (q .0), seen-bool n (rightOf s h n) (p .right f .0) l (q .1))
-
-    ready : (n : ℕ) → n < h .nodes → ((j : ℕ) → j < n → j < h .nodes → Within (rangeOf s h j) (value j)) → Ready (nodeKind s h n) facts verdicts (node s h n) (word s (firstNode h + n) 2) (span (word s (node s h n .w1) 1) (word s (node s h n .w1) 2)) (ranges n (leftOf s h n)) (ranges n (rightOf s h n)) (look n (leftOf s h n)) (look n (rightOf s h n))
-    ready n l ih =
-        let p = node-ok s h n (a .nodes n l) in
+    -- a fact is of its type and range
+    fact-of : (k : ℕ) → k < h .facts → Of (factItem s k) (getD facts k (pos 0))
+    fact-of k l =
         record {
-          fact = λ e. fact-in (node s h n .w1) (p .fact e);
-          factor = λ e. p .factor e .0;
-          verdict = λ e. verdict-bool (node s h n .w1);
-          left = λ e. seen-in n (leftOf s h n) (p .left e .0) (ih (leftOf s h n) (p .left e .0) (omega (arith, p .left e .0)));
-          right = λ e. seen-in n (rightOf s h n) (p .right e .0) (ih (rightOf s h n) (p .right e .0) (omega (arith, p .right e .0)));
-          both = λ e. bools n l p (ap hasLeft e) (ap hasRight e) (p .both e);
-          either = λ e. bools n l p (ap hasLeft e) (ap hasRight e) (p .either e);
-          negate = λ e. seen-bool n (leftOf s h n) (p .left (ap hasLeft e) .0) l (p .negated e);
+          inside = fact-in k l;
+          bool = λ e. let q = fact-ok s k (a .facts k l) .bounds .bool e in subst (λ (z : ℤ). In (pos 0) (getD facts k (pos 0)) z) (q .1) (subst (λ (z : ℤ). In z (getD facts k (pos 0)) (maxOf s k)) (q .0) (fact-in k l));
         }
 
-    -- every node's value lies in the node's range
-    pub value-in : (n : ℕ) → n < h .nodes → Within (rangeOf s h n) (value n)
-    unfolding entry rangeStep exprOf
-    value-in =
-        strong (λ (n : ℕ). n < h .nodes → Within (rangeOf s h n) (value n))
-        (λ n ih l. rw (value-is n) (value-in-range (nodeKind s h n) facts verdicts (node s h n) (word s (firstNode h + n) 1) (word s (firstNode h + n) 2) (span (word s (node s h n .w1) 1) (word s (node s h n .w1) 2)) (look n) (ranges n) (ready n l ih)))
+    named-of : (k : ℕ) → ltb k (h .facts) ≡ true → Of (namedFact s h k) (getD facts k (pos 0))
+    named-of k e = rw e (fact-of k (ltb-true k (h .facts) e))
+
+    known : (n : ℕ) → n < h .nodes → Before n (childrenOf s h n) → ((j : ℕ) → j < n → Of (itemOf s h j) (value j)) → Known (givenOf s h (itemOf s h) n) facts verdicts (pick value (pos 0) (childrenOf s h n) 0) (pick value (pos 0) (childrenOf s h n) 1)
+    known n l b ih =
+        record {
+          fact = named-of (num (nodeWords s h n .w1));
+          verdict = in-true (pos 0) (getD verdicts (num (nodeWords s h n .w1)) (pos 0)) (pos 1) (t .each (num (nodeWords s h n .w1)));
+          x = pick-of (itemOf s h) value n (childrenOf s h n) 0 b ih;
+          y = pick-of (itemOf s h) value n (childrenOf s h n) 1 b ih;
+        }
+
+    value-step : (n : ℕ) → ((j : ℕ) → j < n → j < h .nodes → Of (itemOf s h j) (value j)) → n < h .nodes → Of (itemOf s h n) (value n)
+    value-step n ih l =
+        let p = node-ok s h n (a .nodes n l) in
+        rw (p .item, value-is n (p .before)) (lawful _ (givenOf s h (itemOf s h) n) facts verdicts _ _ (known n l (p .before) (λ j q. ih j q (omega arith))) (p .takes))
+
+    -- every node's value is of the node's type and range
+    pub value-of : (n : ℕ) → n < h .nodes → Of (itemOf s h n) (value n)
+    value-of = strong (λ (n : ℕ). n < h .nodes → Of (itemOf s h n) (value n)) value-step
+
+    pub value-in : (n : ℕ) → n < h .nodes → Within (itemOf s h n) (value n)
+    value-in n l = value-of n l .inside
+
+    -- a Bool node is 0 or 1
+    pub value-bool : (n : ℕ) → n < h .nodes → itemOf s h n .sort ≡ 0 → IsBool (value n)
+    value-bool n l e = value-of n l .bool e
 
     -- so no value leaves −M..M
     pub value-small : (n : ℕ) → n < h .nodes → bounded (value n) ≡ true
     value-small n l =
-        let p = node-ok s h n (a .nodes n l) in
-        true-small (value n) (small-in (p .low) (p .high) (value-in n l))
+        let p = node-ok s h n (a .nodes n l) .fits in
+        true-small (value n) (small-in (small-true _ (p .low)) (small-true _ (p .high)) (value-in n l))
 
     -- a node that is true has 1 in its range
-    pub true-in-range : (n : ℕ) → n < h .nodes → truth s h facts verdicts n ≡ true → Within (rangeOf s h n) (pos 1)
+    pub true-in-range : (n : ℕ) → n < h .nodes → truth s h facts verdicts n ≡ true → Within (itemOf s h n) (pos 1)
     true-in-range n l e = rw (eq-true (value n) (pos 1) e) at (value-in n l)
 
--- a child as its parent's evaluation meets it
-pub record Child (s : List ℤ) (base : ℕ) (facts verdicts : List ℤ) (n a : ℕ) : Type 0 where
-  pub less : a < n
-  pub under : EvaluableAt s base facts verdicts a
-  pub small : bounded (valueOf s (headerOf s) facts verdicts a) ≡ true
-
+-- a node's value as its evaluation meets it
 module _ {s : List ℤ} {base : ℕ} {facts verdicts : List ℤ} {n : ℕ} (v : EvaluableAt s base facts verdicts n) where
-  child : (a : ℕ) → a < n → Child s base facts verdicts n a
-  child a l =
+  abbrev valued : ℕ → ℤ
+  valued j = valueOf s (headerOf s) facts verdicts j
+
+  -- the value in −M..M, as the record at base + n gives it over the children's values x and y
+  pub record Meets (x y : ℤ) : Type 0 where
+    pub small : bounded (rowAt s (base + n) .value (seenAt s (base + n) facts verdicts x y)) ≡ true
+    pub is : rowAt s (base + n) .value (seenAt s (base + n) facts verdicts x y) ≡ valued n
+
+  abbrev from : ℕ → ℤ → ℤ → ℤ
+  from first x y = rowAt s (first + n) .value (seenAt s (first + n) facts verdicts x y)
+
+  meets : (x y : ℤ) (cs : List ℕ) → childrenOf s (headerOf s) n ≡ cs → x ≡ pick valued (pos 0) cs 0 → y ≡ pick valued (pos 0) cs 1 → Meets x y
+  meets x y cs e p q =
       let o = v .over in
-      let e : a < headerOf s .nodes = omega (arith, o .exists) in
-      record {
-        less = l;
-        under = record { first = v .first; over = record { accepted = o .accepted; known = o .known; judged = o .judged; exists = e } };
-        small = value-small s (headerOf s) facts verdicts (o .accepted) (o .known) (o .judged) a e;
-      }
+      let b = node-ok s (headerOf s) n (o .accepted .nodes n (o .exists)) .before in
+      let f = firstNode (headerOf s) in
+      let i : from base x y ≡ valued n = ap (λ (b : ℕ). from b x y) (v .first) ∙ ap (λ (z : ℤ). from f z y) (p ∙ ap (λ (l : List ℕ). pick valued (pos 0) l 0) (sym e)) ∙ ap (λ (z : ℤ). from f (pick valued (pos 0) (childrenOf s (headerOf s) n) 0) z) (q ∙ ap (λ (l : List ℕ). pick valued (pos 0) l 1) (sym e)) ∙ sym (value-is s (headerOf s) facts verdicts n b) in
+      record { small = rw i (value-small s (headerOf s) facts verdicts (o .accepted) (o .known) (o .judged) n (o .exists)); is = i }
 
-  -- what the evaluation of a node finds in its expression
-  pub found : (e : Expr) → exprOf s (headerOf s) n ≡ e → Each (λ k. k < length facts) (λ c. Unit {0}) SmallFactor (Child s base facts verdicts n) e
-  found =
-      named-as s (headerOf s) n (λ k. k < length facts) (λ c. Unit {0}) (Child s base facts verdicts n) (v .over .accepted) (v .over .exists)
-      (λ k l. omega (arith, v .over .known .long)) (λ c l. tt) child
+  module _ (c : Kids) (k : kids c ≡ childrenAt s (base + n)) where
+    pub by-none : c .count ≡ 0 → Meets (pos 0) (pos 0)
+    unfolding pick
+    by-none e = meets (pos 0) (pos 0) [] (none-named (there v) c k e) refl refl
 
-  -- the node's value, from those of its children
-  pub by-expr : {e : Expr} → exprOf s (headerOf s) n ≡ e → valueFrom facts verdicts (valueOf s (headerOf s) facts verdicts) e ≡ valueOf s (headerOf s) facts verdicts n
-  by-expr {e} q = sym (value-as s (headerOf s) facts verdicts (v .over .accepted) n (v .over .exists) e q)
+    pub by-one : {x : ℤ} → c .count ≡ 1 → x ≡ valued (c .first) → Meets x (pos 0)
+    unfolding pick
+    by-one e p = meets _ (pos 0) (c .first ∷ []) (one-named (there v) c k e) p refl
 
-  pub by-one : {op : Unary} {a : Node} {x : ℤ} → exprOf s (headerOf s) n ≡ One op a → x ≡ valueOf s (headerOf s) facts verdicts (a .0) → one op x ≡ valueOf s (headerOf s) facts verdicts n
-  unfolding valueFrom
-  by-one q e = rw e (by-expr q)
+    pub by-two : {x y : ℤ} → (c .count ≡ 0 → ⊥) → (c .count ≡ 1 → ⊥) → x ≡ valued (c .first) → y ≡ valued (c .second) → Meets x y
+    unfolding pick
+    by-two d e p q = meets _ _ (c .first ∷ c .second ∷ []) (two-named (there v) c k d e) p q
 
-  pub by-two : {op : Binary} {a b : Node} {x y : ℤ} → exprOf s (headerOf s) n ≡ Two op a b → x ≡ valueOf s (headerOf s) facts verdicts (a .0) → y ≡ valueOf s (headerOf s) facts verdicts (b .0) → two op x y ≡ valueOf s (headerOf s) facts verdicts n
-  unfolding valueFrom
-  by-two q e f = rw (e, f) (by-expr q)
-
-  -- where the first child decides, the second does not matter
-  pub by-first : {op : Binary} {a b : Node} {x : ℤ} → exprOf s (headerOf s) n ≡ Two op a b → x ≡ valueOf s (headerOf s) facts verdicts (a .0) → decides op x ≡ true → x ≡ valueOf s (headerOf s) facts verdicts n
-  by-first {op} {a} {b} {x} q e d = sym (decided op x (valueOf s (headerOf s) facts verdicts (b .0)) d) ∙ by-two q e refl
-
-  -- ---- a node that is read without its expression; w is its kind's word
-
-  pub by-literal : {w : ℕ} → w ≡ number s (base + n) 0 → w < 3 → word s (base + n) 1 ≡ valueOf s (headerOf s) facts verdicts n
-  unfolding valueFrom
-  by-literal {w} a l = by-expr (read-literal w (there v) a l)
-
-  pub by-fact : {w k : ℕ} → w ≡ number s (base + n) 0 → w ≡ 3 → k ≡ number s (base + n) 1 → (k < length facts) × (getD facts k (pos 0) ≡ valueOf s (headerOf s) facts verdicts n)
-  unfolding valueFrom
-  by-fact a e f = let q = read-fact (there v) a e in rw f (found _ q, by-expr q)
+    -- where the first child decides, the second does not matter
+    pub by-first : {x : ℤ} → (c .count ≡ 0 → ⊥) → (c .count ≡ 1 → ⊥) → x ≡ valued (c .first) → rowAt s (base + n) .decides x ≡ true → x ≡ valued n
+    by-first {x} d e p q = sym (decided _ _ facts verdicts x (valued (c .second)) q) ∙ by-two d e p refl .is

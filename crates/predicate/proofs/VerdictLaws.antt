@@ -12,26 +12,26 @@ use lib.Dec.{ltb}
 use borrow.Author.Tests.{ltb-true}
 use native.Mathlib.Numerals.{add-one}
 use native.Mathlib.Omega.{arith}
-use Rattle.tables.proofs.Bools.{and-left}
+use Rattle.tables.specs.Lists.{allOf, pick}
+use Rattle.tables.proofs.Bools.{and-left, and-right}
+use Rattle.tables.proofs.Grown.{strong}
+use Rattle.tables.proofs.Lists.{Before}
 use Rattle.tables.proofs.Scans.{below-suc}
 use Rattle.signed.specs.Words.{within}
 use Rattle.signed.proofs.Bounds.{true-in}
-use Rattle.words.specs.Record.{word}
 use Rattle.layout.specs.declared.Header.{Header}
-use Rattle.layout.specs.Header.{firstNode}
-use Rattle.layout.specs.Tables.{node}
+use Rattle.node.specs.Rows.{bit}
+use Rattle.node.proofs.Truth.{bit-bool}
 use Rattle.records.specs.Accepted.{Accepted}
-use Rattle.records.specs.Nodes.{nodeKind, leftOf, rightOf}
+use Rattle.records.specs.Nodes.{nodeWords, childrenOf}
 use Rattle.records.specs.Rules.{lower, citesLower}
 use Rattle.records.proofs.NodeLaws.{node-ok}
-use Rattle.records.proofs.RuleLaws.{rule-ok, cites-here, cites-left, cites-right}
+use Rattle.records.proofs.RuleLaws.{rule-ok, cites-here, cites-below}
 use Rattle.facts.specs.Assembled.{FactsIn}
-use Rattle.predicate.specs.Exprs.{exprOf}
-use Rattle.predicate.specs.Values.{bit, truth, valueOf, Truths, Evaluable}
+use Rattle.predicate.specs.Values.{truth, valueOf, Truths, Evaluable}
 use Rattle.predicate.specs.Verdicts.{whenNode, verdictsTo, verdictsOf}
-use Rattle.predicate.proofs.ExprLaws.{strong, each-by}
-use Rattle.predicate.proofs.Truth.{bit-bool}
-use Rattle.predicate.proofs.ValueLaws.{look, look-below, value-is, same-value}
+use Rattle.predicate.proofs.KindLaws.{cited}
+use Rattle.predicate.proofs.ValueLaws.{value-is}
 
 -- ---- every verdict is 1 or 0
 
@@ -75,19 +75,22 @@ module _ (s : List ℤ) (h : Header) (facts : List ℤ) where
 
 -- ---- a rule's judgement hangs on the facts and on lower verdicts alone
 
+-- what is picked depends on the numbers in the list alone, all of which pass the test P
+pick-passed : (f g : ℕ → ℤ) (P : ℕ → Bool) (n : ℕ) (cs : List ℕ) (i : ℕ) → Before n cs → allOf P cs ≡ true → ((j : ℕ) → j < n → P j ≡ true → f j ≡ g j) → pick f (pos 0) cs i ≡ pick g (pos 0) cs i
+unfolding pick allOf
+pick-passed f g P n [] i b p h = refl
+pick-passed f g P n (c ∷ cs) zero b p h = h c (b .0) (and-left (P c) (allOf P cs) p)
+pick-passed f g P n (c ∷ cs) (suc i) b p h = pick-passed f g P n cs i (b .1) (and-right (P c) (allOf P cs) p) h
+
 module _ (s : List ℤ) (h : Header) (facts : List ℤ) (a : Accepted s h) (k : ℕ) (v w : List ℤ) (agree : (c : ℕ) → lower s h k c ≡ true → getD v c (pos 0) ≡ getD w c (pos 0)) where
   cites-step : (n : ℕ) → ((j : ℕ) → j < n → j < h .nodes → citesLower s h k j ≡ true → valueOf s h facts v j ≡ valueOf s h facts w j) → n < h .nodes → citesLower s h k n ≡ true → valueOf s h facts v n ≡ valueOf s h facts w n
-  unfolding exprOf
   cites-step n ih l p =
-      let q = node-ok s h n (a .nodes n l) in
-      let child : (j : ℕ) → j < n → citesLower s h k j ≡ true → look s h facts v n j ≡ look s h facts w n j = λ j b c. look-below s h facts v n j b ∙ ih j b (omega arith) c ∙ sym (look-below s h facts w n j b) in
-      value-is s h facts v n
-      ∙ same-value facts v w (λ op. Unit {0}) (look s h facts v n) (look s h facts w n) (exprOf s h n)
-      (each-by (λ j. Unit {0}) (λ c. getD v c (pos 0) ≡ getD w c (pos 0)) (λ op. Unit {0}) (λ j. look s h facts v n j ≡ look s h facts w n j) (node s h n) (word s (firstNode h + n) 1) (word s (firstNode h + n) 2) (nodeKind s h n) (λ e. tt)
-      (λ e. agree (node s h n .w1) (cites-here s h k n p e)) (λ e. tt) tt
-      (λ e. child (leftOf s h n) (q .left e .0) (cites-left s h k n p e (q .left e .0)))
-      (λ e. child (rightOf s h n) (q .right e .0) (cites-right s h k n p e (q .right e .0))))
-      ∙ sym (value-is s h facts w n)
+      let b = node-ok s h n (a .nodes n l) .before in
+      let below = cites-below s h k n b p in
+      let same : (i : ℕ) → pick (valueOf s h facts v) (pos 0) (childrenOf s h n) i ≡ pick (valueOf s h facts w) (pos 0) (childrenOf s h n) i = λ i. pick-passed (valueOf s h facts v) (valueOf s h facts w) (citesLower s h k) n (childrenOf s h n) i b below (λ j q. ih j q (omega arith)) in
+      value-is s h facts v n b
+      ∙ rw (same 0, same 1) (cited _ (lower s h k) (nodeWords s h n) facts v w _ _ (cites-here s h k n b p) agree)
+      ∙ sym (value-is s h facts w n b)
 
   -- the value of a node whose tree cites only lower rules
   cites-only : (n : ℕ) → n < h .nodes → citesLower s h k n ≡ true → valueOf s h facts v n ≡ valueOf s h facts w n

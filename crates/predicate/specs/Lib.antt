@@ -1,4 +1,3 @@
-pub mod Exprs
 pub mod Values
 pub mod Base
 pub mod Sizes

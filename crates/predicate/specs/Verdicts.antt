@@ -5,7 +5,8 @@ use lib.IntN.{ℤ}
 use mathlib.Core.List.{List, [], _∷_, _++_}
 use Rattle.layout.specs.declared.Header.{Header}
 use Rattle.layout.specs.Tables.{rule}
-use Rattle.predicate.specs.Values.{bit, truth}
+use Rattle.node.specs.Rows.{bit}
+use Rattle.predicate.specs.Values.{truth}
 
 -- the when-node of rule k
 abbrev pub whenNode : List ℤ → Header → ℕ → ℕ

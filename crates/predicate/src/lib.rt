@@ -1,80 +1,61 @@
-// Predicates over facts and verdicts: the value of a node and the size of its tree; and the verdicts.
+// Predicates over facts and verdicts: the value of a node, its range, and the size of its tree; and the verdicts.
 ghost use mathlib.Core.Path.{_≡_};
-ghost use mathlib.Core.Bool.{true};
-ghost use Prim.Native.Nat.{_<_};
-ghost use Rattle.signed.specs.Words.{bounded};
+ghost use mathlib.Core.Bool.{true, not, _&&_, _||_};
+ghost use Prim.Native.Nat.{_+_, _*_, _<_, _≤_};
+ghost use lib.IntN.{pos, _+ℤ_, _-ℤ_, _*ℤ_};
+ghost use lib.ListN.{length, getD};
+ghost use Rattle.signed.specs.Words.{bounded, within as inRange, num as wordNumber};
+ghost use Rattle.signed.specs.Compare.{holds as comparison};
 ghost use Rattle.layout.specs.Header.{headerOf};
+ghost use Rattle.item.specs.Items.{Small};
+ghost use Rattle.node.specs.Rows.{bit, isTrue, rowOf};
+ghost use Rattle.node.specs.Judged.{kids, judged};
+ghost use Rattle.records.specs.Nodes.{itemOf};
 ghost use Rattle.records.specs.Accepted.{Accepted};
 ghost use Rattle.facts.specs.Assembled.{FactsIn};
-ghost use Rattle.predicate.specs.Exprs.{exprOf};
-ghost use Rattle.predicate.specs.Values.{bit, decides, one, two, valueOf, truth, Evaluable, SmallFactor};
-ghost use Rattle.predicate.specs.Base.{NodeAt, EvaluableAt};
+ghost use Rattle.predicate.specs.Values.{valueOf, truth, Evaluable};
+ghost use Rattle.predicate.specs.Base.{rowAt, childrenAt, seen, seenAt, factAt, givenAt, BaseOf, NodeAt, EvaluableAt, RangeAt};
 ghost use Rattle.predicate.specs.Verdicts.{verdictsOf};
 ghost use Rattle.predicate.specs.Sizes.{treeSize};
-ghost use lib.ListN.{length};
+use item::Item;
+use item::span;
 use layout::Header;
 use layout::Node;
-use layout::Rule;
-use node::Kind;
-use node::kind_of;
+use node::Given;
+use node::Kids;
+use node::children;
+use node::judge;
+use records::fact_sort;
 use signed::holds;
-use signed::minus;
-use signed::plus;
+use signed::num;
 use signed::same;
-use signed::times;
+use signed::within;
 use tables::word_entry;
+use words::Words;
 use words::number;
 use words::word;
+use words::words_at;
 
-// An operator on one child.
-pub enum Unary {
-    Times(i64),
-    Negate,
-}
-
-// An operator on two children; a comparison has its number.
-pub enum Binary {
-    Plus,
-    Minus,
-    Compare(usize),
-    Both,
-    Either,
-}
-
-// A node as it is read from its record: its children are still to be worked out.
-pub enum Expr {
-    Literal(i64),
-    FactOf(usize),
-    Present(Rule),
-    One(Unary, Node),
-    Two(Binary, Node, Node),
-}
-
-// The node's expression. `base` is the record of the first node, the one number of the header that a tree needs: the header is eleven words, and
-// each call would copy them. A kind that is not listed stands on no accepted sheet.
-pub fn expr_at(s: &[i64], base: usize, n: Node) -> Expr
-    requires { ⌜ NodeAt (now s) base (n .0) ⌝ }
-    ensures { λ e. ⌜ e ≡ exprOf (now (s .entry)) (headerOf (now (s .entry))) (n .0) ⌝ }
+// Sums, differences and products that are known to lie in −M..M.
+fn add(a: i64, b: i64) -> i64
+    requires { ⌜ bounded (a +ℤ b) ≡ true ⌝ }
+    ensures { λ r. ⌜ r ≡ a +ℤ b ⌝ }
 {
-    let at = base + n.0;
-    let k = kind_of(number(s, at, 0));
-    let a = number(s, at, 1);
-    let b = number(s, at, 2);
-    match k {
-        Kind::IntLiteral => Expr::Literal(word(s, at, 1)),
-        Kind::BoolLiteral => Expr::Literal(word(s, at, 1)),
-        Kind::EnumLiteral => Expr::Literal(word(s, at, 1)),
-        Kind::Fact => Expr::FactOf(a),
-        Kind::Sum => Expr::Two(Binary::Plus, Node(a), Node(b)),
-        Kind::Difference => Expr::Two(Binary::Minus, Node(a), Node(b)),
-        Kind::Product => Expr::One(Unary::Times(word(s, at, 2)), Node(a)),
-        Kind::Comparison => Expr::Two(Binary::Compare(a), Node(b), Node(number(s, at, 3))),
-        Kind::Verdict => Expr::Present(Rule(a)),
-        Kind::And => Expr::Two(Binary::Both, Node(a), Node(b)),
-        Kind::Or => Expr::Two(Binary::Either, Node(a), Node(b)),
-        Kind::Not => Expr::One(Unary::Negate, Node(a)),
-        Kind::Unknown => Expr::Literal(0),
-    }
+    a + b
+}
+
+fn subtract(a: i64, b: i64) -> i64
+    requires { ⌜ bounded (a -ℤ b) ≡ true ⌝ }
+    ensures { λ r. ⌜ r ≡ a -ℤ b ⌝ }
+{
+    a - b
+}
+
+fn multiply(a: i64, b: i64) -> i64
+    requires { ⌜ bounded (a *ℤ b) ≡ true ⌝ }
+    ensures { λ r. ⌜ r ≡ a *ℤ b ⌝ }
+{
+    a * b
 }
 
 // A truth value, as a word.
@@ -84,81 +65,109 @@ fn bit(b: bool) -> i64
     if b { 1 } else { 0 }
 }
 
-fn apply_one(op: Unary, x: i64) -> i64
-    requires { ⌜ SmallFactor op × (bounded x ≡ true) ⌝ }
-    ensures { λ r. ⌜ r ≡ one op x ⌝ }
+fn compare(w: Words, x: i64, y: i64) -> i64
+    ensures { λ r. ⌜ r ≡ bit (comparison (wordNumber (w .w1)) x y) ⌝ }
 {
-    match op {
-        Unary::Times(m) => times(x, m),
-        Unary::Negate => bit(!same(x, 1)),
+    bit(holds(num(w.w1), x, y))
+}
+
+fn both_true(x: i64, y: i64) -> i64
+    ensures { λ r. ⌜ r ≡ bit (isTrue x && isTrue y) ⌝ }
+{
+    bit(same(x, 1) & same(y, 1))
+}
+
+fn either_true(x: i64, y: i64) -> i64
+    ensures { λ r. ⌜ r ≡ bit (isTrue x || isTrue y) ⌝ }
+{
+    bit(same(x, 1) | same(y, 1))
+}
+
+fn not_true(x: i64) -> i64
+    ensures { λ r. ⌜ r ≡ bit (not (isTrue x)) ⌝ }
+{
+    bit(!same(x, 1))
+}
+
+// The fact or the verdict that word 1 names.
+fn named(t: &[i64], w: Words) -> i64
+    ensures { λ r. ⌜ r ≡ getD (now (t .entry)) (wordNumber (w .w1)) (pos 0) ⌝ }
+{
+    word_entry(t, num(w.w1))
+}
+
+// The value of a node of kind number k, known to lie in −M..M, from its words, the facts, the verdicts and its children's values.
+fn value_from(k: usize, w: Words, facts: &[i64], verdicts: &[i64], x: i64, y: i64) -> i64
+    requires { ⌜ bounded (rowOf k .value (seen w (now facts) (now verdicts) x y)) ≡ true ⌝ }
+    ensures { λ r. ⌜ r ≡ rowOf k .value (seen w (now (facts .entry)) (now (verdicts .entry)) x y) ⌝ }
+{
+    match k {
+        0 => w.w1,
+        1 => w.w1,
+        2 => w.w1,
+        3 => named(facts, w),
+        4 => add(x, y),
+        5 => subtract(x, y),
+        6 => multiply(x, w.w2),
+        7 => compare(w, x, y),
+        8 => named(verdicts, w),
+        9 => both_true(x, y),
+        10 => either_true(x, y),
+        11 => not_true(x),
+        12.. => 0,
     }
 }
 
-fn apply_two(op: Binary, x: i64, y: i64) -> i64
-    requires { ⌜ (bounded x ≡ true) × (bounded y ≡ true) ⌝ }
-    ensures { λ r. ⌜ r ≡ two op x y ⌝ }
+// Whether the first child of a node of kind number k already decides it.
+fn decides(k: usize, x: i64) -> bool
+    ensures { λ r. ⌜ r ≡ rowOf k .decides x ⌝ }
 {
-    match op {
-        Binary::Plus => plus(x, y),
-        Binary::Minus => minus(x, y),
-        Binary::Compare(c) => bit(holds(c, x, y)),
-        Binary::Both => bit(same(x, 1) & same(y, 1)),
-        Binary::Either => bit(same(x, 1) | same(y, 1)),
+    match k {
+        0..=8 => false,
+        9 => same(x, 0),
+        10 => same(x, 1),
+        11.. => false,
     }
 }
 
-// Whether the first child of a connective already decides it.
-fn decides(op: Binary, x: i64) -> bool
-    ensures { λ r. ⌜ r ≡ decides op x ⌝ }
+// The children of the node in record k. This and the next two read the record anew, so that no call of the recursions below keeps it.
+fn kids_at(s: &[i64], k: usize) -> Kids
+    requires { ⌜ 16 + 8 * k + 8 ≤ length (now s) ⌝ }
+    ensures { λ r. ⌜ kids r ≡ childrenAt (now (s .entry)) k ⌝ }
 {
-    match op {
-        Binary::Plus => false,
-        Binary::Minus => false,
-        Binary::Compare(_) => false,
-        Binary::Both => same(x, 0),
-        Binary::Either => same(x, 1),
-    }
+    let w = words_at(s, k);
+    children(num(w.w0), w)
 }
 
-// The value of a node from those of its children, which have smaller numbers, so the calls end.
+fn value_at(s: &[i64], k: usize, facts: &[i64], verdicts: &[i64], x: i64, y: i64) -> i64
+    requires { ⌜ 16 + 8 * k + 8 ≤ length (now s) ⌝ }
+    requires { ⌜ bounded (rowAt (now s) k .value (seenAt (now s) k (now facts) (now verdicts) x y)) ≡ true ⌝ }
+    ensures { λ r. ⌜ r ≡ rowAt (now (s .entry)) k .value (seenAt (now (s .entry)) k (now (facts .entry)) (now (verdicts .entry)) x y) ⌝ }
+{
+    let w = words_at(s, k);
+    value_from(num(w.w0), w, facts, verdicts, x, y)
+}
+
+// The value of a node from those of its children, which have smaller numbers, so the calls end. `base` is the record of the first node, the
+// one number of the header that a tree needs: the header is eleven words, and each call would copy them.
 fn evaluate(s: &[i64], base: usize, facts: &[i64], verdicts: &[i64], n: Node) -> i64
     requires { ⌜ EvaluableAt (now s) base (now facts) (now verdicts) (n .0) ⌝ }
     ensures { λ r. ⌜ r ≡ valueOf (now (s .entry)) (headerOf (now (s .entry))) (now (facts .entry)) (now (verdicts .entry)) (n .0) ⌝ }
 {
-    let e = expr_at(s, base, n);
-    match e {
-        Expr::Literal(v) => v,
-        Expr::FactOf(k) => facts[k],
-        Expr::Present(c) => {
-            let k = c.0;
-            word_entry(verdicts, k)
-        }
-        Expr::One(op, a) => apply_one(op, operand(s, base, facts, verdicts, a)),
-        Expr::Two(op, a, b) => {
-            let x = operand(s, base, facts, verdicts, a);
-            if decides(op, x) {
-                return x;
-            }
-            apply_two(op, x, operand(s, base, facts, verdicts, b))
-        }
-    }
-}
-
-// The value of a child. A literal (kinds 0 to 2) or a fact (kind 3) is read at once, which spares a call for each.
-fn operand(s: &[i64], base: usize, facts: &[i64], verdicts: &[i64], n: Node) -> i64
-    requires { ⌜ EvaluableAt (now s) base (now facts) (now verdicts) (n .0) ⌝ }
-    ensures { λ r. ⌜ r ≡ valueOf (now (s .entry)) (headerOf (now (s .entry))) (now (facts .entry)) (now (verdicts .entry)) (n .0) ⌝ }
-{
     let at = base + n.0;
-    let kind = number(s, at, 0);
-    if kind < 3 {
-        return word(s, at, 1);
+    let c = kids_at(s, at);
+    if c.count == 0 {
+        return value_at(s, at, facts, verdicts, 0, 0);
     }
-    if kind == 3 {
-        let k = number(s, at, 1);
-        return facts[k];
+    let x = evaluate(s, base, facts, verdicts, Node(c.first));
+    if c.count == 1 {
+        return value_at(s, at, facts, verdicts, x, 0);
     }
-    evaluate(s, base, facts, verdicts, n)
+    if decides(number(s, at, 0), x) {
+        return x;
+    }
+    let y = evaluate(s, base, facts, verdicts, Node(c.second));
+    value_at(s, at, facts, verdicts, x, y)
 }
 
 // The value of a node.
@@ -191,6 +200,69 @@ pub fn fill_verdicts(s: &[i64], h: Header, facts: &[i64], out: &mut [i64])
     }
 }
 
+// The type and range of the fact that a node names; Bool, 0 to 0, where there is no such fact.
+fn named_fact(s: &[i64], base: usize, f: usize) -> Item
+    requires { ⌜ BaseOf (now s) base ⌝ }
+    ensures { λ x. ⌜ x ≡ factAt (now (s .entry)) base f ⌝ }
+{
+    if f < base {
+        let sort = fact_sort(number(s, f, 0), number(s, f, 5));
+        span(sort, word(s, f, 1), word(s, f, 2))
+    } else {
+        span(0, 0, 0)
+    }
+}
+
+// The type and range of the node in record k, where it is good, from those of its children. There are `base` facts.
+fn range_at(s: &[i64], base: usize, rules: usize, k: usize, x: Item, y: Item) -> Item
+    requires { ⌜ BaseOf (now s) base × (16 + 8 * k + 8 ≤ length (now s)) ⌝ }
+    requires { ⌜ Small x × Small y ⌝ }
+    ensures { λ r. ⌜ r ≡ judged (rowAt (now (s .entry)) k) (givenAt (now (s .entry)) base rules k x y) .item ⌝ }
+{
+    let words = words_at(s, k);
+    let fact = named_fact(s, base, num(words.w1));
+    let found = judge(
+        num(words.w0),
+        Given {
+            words,
+            facts: base,
+            rules,
+            fact,
+            x,
+            y,
+        },
+    );
+    found.item
+}
+
+// The type and value range of a node from those of its children.
+fn item_at(s: &[i64], base: usize, rules: usize, n: Node) -> Item
+    requires { ⌜ RangeAt (now s) base rules (n .0) ⌝ }
+    ensures { λ r. ⌜ r ≡ itemOf (now (s .entry)) (headerOf (now (s .entry))) (n .0) ⌝ }
+{
+    let at = base + n.0;
+    let c = kids_at(s, at);
+    let none = span(0, 0, 0);
+    if c.count == 0 {
+        return range_at(s, base, rules, at, none, none);
+    }
+    let x = item_at(s, base, rules, Node(c.first));
+    if c.count == 1 {
+        return range_at(s, base, rules, at, x, none);
+    }
+    let y = item_at(s, base, rules, Node(c.second));
+    range_at(s, base, rules, at, x, y)
+}
+
+// Whether the node's range includes 1.
+pub fn can_hold(s: &[i64], h: Header, n: Node) -> bool
+    requires { ⌜ Accepted (now s) h × (n .0 < h .nodes) ⌝ }
+    ensures { λ r. ⌜ r ≡ inRange (itemOf (now (s .entry)) h (n .0) .low) (pos 1) (itemOf (now (s .entry)) h (n .0) .high) ⌝ }
+{
+    let x = item_at(s, h.facts, h.rules, n);
+    within(x.low, 1, x.high)
+}
+
 // S7: the number of nodes in the tree under a node, itself counted. Each node is named at most once, so there are at most n + 1.
 pub fn tree_size(s: &[i64], h: Header, n: Node) -> usize
     requires { ⌜ Accepted (now s) h × (n .0 < h .nodes) ⌝ }
@@ -204,12 +276,13 @@ fn size_at(s: &[i64], base: usize, n: Node) -> usize
     requires { ⌜ NodeAt (now s) base (n .0) ⌝ }
     ensures { λ r. ⌜ r ≡ treeSize (now (s .entry)) (headerOf (now (s .entry))) (n .0) ⌝ }
 {
-    let e = expr_at(s, base, n);
-    match e {
-        Expr::Literal(_) => 1,
-        Expr::FactOf(_) => 1,
-        Expr::Present(_) => 1,
-        Expr::One(_, a) => 1 + size_at(s, base, a),
-        Expr::Two(_, a, b) => 1 + size_at(s, base, a) + size_at(s, base, b),
+    let c = kids_at(s, base + n.0);
+    if c.count == 0 {
+        return 1;
     }
+    let a = size_at(s, base, Node(c.first));
+    if c.count == 1 {
+        return 1 + a;
+    }
+    1 + a + size_at(s, base, Node(c.second))
 }

@@ -19,7 +19,7 @@ use Rattle.layout.specs.declared.Header.{Header}
 use Rattle.layout.specs.Groups.{stepCount, routeCount}
 use Rattle.layout.specs.Tables.{operation, flow, step, route}
 use Rattle.layout.proofs.Owners.{holder-is}
-use Rattle.records.specs.Nodes.{typeOf}
+use Rattle.records.specs.Nodes.{itemOf}
 use Rattle.records.specs.Names.{namedBySteps, goodRoot}
 use Rattle.records.specs.Flows.{goodFlow, goodStep, goodOperationStep, goodBranchStep, goodRoute, goodRouteOf, stepsEnd, routesEnd, flowOf, stepOf}
 use Rattle.records.specs.Accepted.{Accepted}
@@ -39,7 +39,7 @@ pub record StepOk (s : List ℤ) (h : Header) (i : ℕ) : Type 0 where
 -- the two kinds of step: an operation by a persona, with a route for each outcome and one for failure; a branch on a node, with two
 pub data StepKind (s : List ℤ) (h : Header) (r : Record) : Type 0 where
   performs : r .w0 ≡ 0 → r .w1 < h .operations → r .w2 < h .personas → r .w4 ≡ operation s h (r .w1) .w4 + 1 → StepKind s h r
-  branches : r .w0 ≡ 1 → r .w1 < h .nodes → typeOf s h (r .w1) ≡ 0 → r .w4 ≡ 2 → StepKind s h r
+  branches : r .w0 ≡ 1 → r .w1 < h .nodes → itemOf s h (r .w1) .sort ≡ 0 → r .w4 ≡ 2 → StepKind s h r
 
 -- the two kinds of route: to a step after `owner` and before `end`, or to a terminal
 pub data RouteKind (owner end : ℕ) (r : Record) : Type 0 where

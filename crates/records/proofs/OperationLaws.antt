@@ -21,7 +21,7 @@ use Rattle.layout.specs.Tables.{entity, transition, operation, effect}
 use Rattle.layout.proofs.Owners.{holder-is, held, starts-by, ends-past}
 use Rattle.records.specs.Accepted.{Accepted}
 use Rattle.records.specs.Names.{goodRoot, namedByOperations}
-use Rattle.records.specs.Nodes.{typeOf}
+use Rattle.records.specs.Nodes.{itemOf}
 use Rattle.records.specs.Entities.{goodEntity, states, goodChange, goodTransition, sameChange, declared}
 use Rattle.records.specs.Operations.{goodMask, goodOperation, effectsEnd, operationOf, outcome, goodOutcome, sameSource, goodEffectOf, goodEffect}
 
@@ -50,7 +50,7 @@ pub record OperationOk (s : List ℤ) (h : Header) (o : ℕ) : Type 0 where
   pub mask-some : 1 ≤ operation s h o .w0
   pub mask-below : operation s h o .w0 < 2 ^ h .personas
   pub node : operation s h o .w1 < h .nodes
-  pub bool : typeOf s h (operation s h o .w1) ≡ 0
+  pub bool : itemOf s h (operation s h o .w1) .sort ≡ 0
   pub unnamed : namedByOperations s h o (operation s h o .w1) ≡ false
   pub first : operation s h o .w2 ≡ sumBelow (effectCount s h) o
   pub effects : 1 ≤ operation s h o .w3

@@ -1,42 +1,57 @@
 -- 01, "Fact": type (0 Bool, 1 Int, 2 Enum), min, max, has default (0/1), default, value set.
 -- Assumes nothing.
 use Prim.Native.Nat.{ℕ}
-use lib.IntN.{ℤ}
-use lib.Signed.{leZ}
-use mathlib.Core.Bool.{Bool, false, not, cond, _&&_, _||_}
+use lib.IntN.{ℤ, pos}
+use mathlib.Core.Bool.{Bool, not, cond, _&&_, _||_}
 use mathlib.Core.List.{List}
-use lib.Dec.{leb, eqb}
+use lib.Dec.{eqb}
 use Rattle.tables.specs.Scan.{allBelow}
-use Rattle.signed.specs.Words.{within, bounded}
-use Rattle.words.specs.declared.Record.{Record}
-use Rattle.words.specs.Record.{word, unused}
+use Rattle.signed.specs.Words.{eqZ, within}
+use Rattle.words.specs.Record.{word, number, unused}
 use Rattle.layout.specs.Tables.{fact}
+use Rattle.item.specs.declared.Item.{Item}
+use Rattle.item.specs.Sorts.{isEnum}
+use Rattle.item.specs.Items.{span}
+use Rattle.node.specs.FactTypes.{FactType, factTypeOf}
 
--- Bool: 0, 1. Int: −M ≤ min ≤ max ≤ M. Enum: min 0, max 0..255. There is no other type
-unfoldable pub goodBounds : Record → ℤ → ℤ → Bool
-goodBounds r min max =
-    cond (eqb (r .w0) 0) (eqb (r .w1) 0 && eqb (r .w2) 1)
-    (cond (eqb (r .w0) 1) (bounded min && leZ min max && bounded max)
-    (cond (eqb (r .w0) 2) (eqb (r .w1) 0 && leb (r .w2) 255)
-    false))
+-- the words of fact k
+abbrev pub typeRow : List ℤ → ℕ → FactType
+typeRow s k = factTypeOf (number s k 0)
 
--- an Enum's set is 0..127, and the set is 0 for other types
-unfoldable pub goodSet : Record → Bool
-goodSet r = cond (eqb (r .w0) 2) (leb (r .w5) 127) (eqb (r .w5) 0)
+abbrev pub minOf : List ℤ → ℕ → ℤ
+minOf s k = word s k 1
+
+abbrev pub maxOf : List ℤ → ℕ → ℤ
+maxOf s k = word s k 2
+
+abbrev pub defaultFlag : List ℤ → ℕ → ℕ
+defaultFlag s k = number s k 3
+
+abbrev pub defaultOf : List ℤ → ℕ → ℤ
+defaultOf s k = word s k 4
+
+abbrev pub setOf : List ℤ → ℕ → ℕ
+setOf s k = number s k 5
+
+-- the type of its values, and that with their range, min..max
+abbrev pub factSort : List ℤ → ℕ → ℕ
+factSort s k = typeRow s k .sort (setOf s k)
+
+abbrev pub factItem : List ℤ → ℕ → Item
+factItem s k = span (factSort s k) (minOf s k) (maxOf s k)
 
 -- a default lies in min..max; without one the word is 0
-unfoldable pub goodDefault : Record → ℤ → ℤ → ℤ → Bool
-goodDefault r min max default =
-    cond (eqb (r .w3) 0) (eqb (r .w4) 0) (eqb (r .w3) 1 && within min default max)
+unfoldable pub goodDefault : ℕ → ℤ → ℤ → ℤ → Bool
+goodDefault flag min max default = cond (eqb flag 0) (eqZ default (pos 0)) (eqb flag 1 && within min default max)
 
--- two Enum facts of one set have one max
-unfoldable pub agree : Record → Record → Bool
-agree q r = not (eqb (q .w0) 2 && eqb (r .w0) 2 && eqb (q .w5) (r .w5)) || eqb (q .w2) (r .w2)
+-- facts of one set have one max
+unfoldable pub agree : List ℤ → ℕ → ℕ → Bool
+agree s j k = not (isEnum (factSort s j) && eqb (factSort s j) (factSort s k)) || eqZ (maxOf s j) (maxOf s k)
 
 unfoldable pub goodFact : List ℤ → ℕ → Bool
 goodFact s k =
-    goodBounds (fact s k) (word s k 1) (word s k 2)
-    && goodSet (fact s k)
-    && goodDefault (fact s k) (word s k 1) (word s k 2) (word s k 4)
+    typeRow s k .bounds (minOf s k) (maxOf s k)
+    && typeRow s k .takesSet (setOf s k)
+    && goodDefault (defaultFlag s k) (minOf s k) (maxOf s k) (defaultOf s k)
     && unused 6 (fact s k)
-    && allBelow (λ j. agree (fact s j) (fact s k)) k
+    && allBelow (λ j. agree s j k) k

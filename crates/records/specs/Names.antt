@@ -8,7 +8,7 @@ use lib.Dec.{ltb, eqb}
 use Rattle.tables.specs.Scan.{anyBelow}
 use Rattle.layout.specs.declared.Header.{Header}
 use Rattle.layout.specs.Tables.{rule, operation, step}
-use Rattle.records.specs.Nodes.{namedByNodes, typeOf}
+use Rattle.records.specs.Nodes.{namedByNodes, itemOf}
 
 -- some node, or some rule before k, names a
 unfoldable pub namedByRules : List ℤ → Header → ℕ → ℕ → Bool
@@ -25,4 +25,4 @@ namedBySteps s h k a =
 
 -- a when-node, precondition or branch: it exists, is Bool, and is not named already
 unfoldable pub goodRoot : List ℤ → Header → ℕ → Bool → Bool
-goodRoot s h a named = ltb a (h .nodes) && eqb (typeOf s h a) 0 && not named
+goodRoot s h a named = ltb a (h .nodes) && eqb (itemOf s h a .sort) 0 && not named

@@ -1,63 +1,76 @@
--- 01, "Node": when a node is good, and its type and value range on a sheet.
+-- 01, "Node": when a node is good, its type and value range, and the tree under it.
 -- Assumes nothing.
 use Prim.Native.Nat.{ℕ, _+_}
-use lib.IntN.{ℤ, pos}
-use mathlib.Core.Bool.{Bool, not, _&&_, _||_}
-use mathlib.Core.List.{List}
-use lib.Dec.{ltb, eqb}
+use lib.IntN.{ℤ}
+use mathlib.Core.Bool.{Bool, not, cond, _&&_}
+use mathlib.Core.List.{List, [], _∷_}
+use lib.Dec.{ltb}
 use Rattle.tables.specs.Scan.{anyBelow}
 use Rattle.tables.specs.Table.{entry}
-use Rattle.words.specs.Record.{word}
+use Rattle.tables.specs.Lists.{has, allOf, distinct, joined, pick}
+use Rattle.signed.specs.Words.{num}
+use Rattle.words.specs.declared.Words.{Words}
+use Rattle.words.specs.Record.{wordsAt}
 use Rattle.layout.specs.declared.Header.{Header}
 use Rattle.layout.specs.Header.{firstNode}
-use Rattle.layout.specs.Tables.{fact, node}
-use Rattle.node.specs.declared.Kind.{Kind}
-use Rattle.node.specs.declared.range.Range.{Range}
-use Rattle.node.specs.Kinds.{kindOf, hasLeft, hasRight, left, right, goodWords}
-use Rattle.node.specs.Types.{factType, typeFrom, goodTypes}
-use Rattle.node.specs.Ranges.{span, rangeFrom, goodSpan}
+use Rattle.item.specs.declared.Item.{Item}
+use Rattle.item.specs.Items.{none}
+use Rattle.node.specs.declared.Given.{Given}
+use Rattle.node.specs.Rows.{Row, rowOf}
+use Rattle.node.specs.Judged.{fits}
+use Rattle.records.specs.Facts.{factItem}
 
-abbrev pub nodeKind : List ℤ → Header → ℕ → Kind
-nodeKind s h n = kindOf (node s h n .w0)
+-- the words of node n, and the row of its kind
+abbrev pub nodeWords : List ℤ → Header → ℕ → Words
+nodeWords s h n = wordsAt s (firstNode h + n)
 
--- the numbers of a node's children, where its kind has them
-abbrev pub leftOf : List ℤ → Header → ℕ → ℕ
-leftOf s h n = left (nodeKind s h n) (node s h n)
+abbrev pub nodeRow : List ℤ → Header → ℕ → Row
+nodeRow s h n = rowOf (num (nodeWords s h n .w0))
 
-abbrev pub rightOf : List ℤ → Header → ℕ → ℕ
-rightOf s h n = right (nodeKind s h n) (node s h n)
+-- the nodes that node n names, and the rules that it cites
+abbrev pub childrenOf : List ℤ → Header → ℕ → List ℕ
+childrenOf s h n = nodeRow s h n .children (nodeWords s h n)
 
--- a node's type
-unfoldable pub typeOf : List ℤ → Header → ℕ → ℕ
-typeOf s h n = typeFrom (nodeKind s h n) (node s h n) (factType (fact s (node s h n .w1)))
+abbrev pub citedBy : List ℤ → Header → ℕ → List ℕ
+citedBy s h n = nodeRow s h n .cites (nodeWords s h n)
 
--- a node's value range, from those of the nodes before it
-unfoldable pub rangeStep : List ℤ → Header → (ℕ → Range) → ℕ → Range
-rangeStep s h look n =
-    rangeFrom (nodeKind s h n) (node s h n .w1) (word s (firstNode h + n) 1) (span (word s (node s h n .w1) 1) (word s (node s h n .w1) 2))
-    (word s (firstNode h + n) 2) (look (leftOf s h n)) (look (rightOf s h n))
+-- the type and range of a fact that a node names, where there is one
+abbrev pub namedFact : List ℤ → Header → ℕ → Item
+namedFact s h f = cond (ltb f (h .facts)) (factItem s f) none
 
-abbrev pub rangeOf : List ℤ → Header → ℕ → Range
-rangeOf s h n = entry (rangeStep s h) (span (pos 0) (pos 0)) n
+-- what node n is worked out from; `look` gives the types and ranges of its children
+abbrev pub givenOf : List ℤ → Header → (ℕ → Item) → ℕ → Given
+givenOf s h look n =
+    record {
+      words = nodeWords s h n;
+      facts = h .facts;
+      rules = h .rules;
+      fact = namedFact s h (num (nodeWords s h n .w1));
+      x = pick look none (childrenOf s h n) 0;
+      y = pick look none (childrenOf s h n) 1;
+    }
 
--- node j names node a: a is a child of j
-unfoldable pub nodeNames : List ℤ → Header → ℕ → ℕ → Bool
-nodeNames s h j a =
-    hasLeft (nodeKind s h j) && eqb (leftOf s h j) a || hasRight (nodeKind s h j) && eqb (rightOf s h j) a
+-- the type and value range of node n, from those of the nodes before it
+unfoldable pub itemStep : List ℤ → Header → (ℕ → Item) → ℕ → Item
+itemStep s h look n = nodeRow s h n .gives (givenOf s h look n)
+
+unfoldable pub itemOf : List ℤ → Header → ℕ → Item
+itemOf s h n = entry (itemStep s h) none n
+
+-- the nodes of the tree under node n, itself first
+unfoldable pub treeStep : List ℤ → Header → (ℕ → List ℕ) → ℕ → List ℕ
+treeStep s h look n = n ∷ joined look (childrenOf s h n)
+
+unfoldable pub treeOf : List ℤ → Header → ℕ → List ℕ
+treeOf s h n = entry (treeStep s h) [] n
 
 -- some node before n names a
 unfoldable pub namedByNodes : List ℤ → Header → ℕ → ℕ → Bool
-namedByNodes s h n a = anyBelow (λ j. nodeNames s h j a) n
+namedByNodes s h n a = anyBelow (λ j. has a (childrenOf s h j)) n
 
--- children have smaller numbers, are named by no node before, and are not the same node twice; a and b are the children, l and r say
--- whether there are such, x and y whether they are named already
-unfoldable pub goodChildren : ℕ → Bool → ℕ → Bool → Bool → ℕ → Bool → Bool
-goodChildren n l a x r b y =
-    (not l || ltb a n && not x) && (not r || ltb b n && not y && not (eqb a b))
+-- "child nodes have smaller numbers than their parent"; "a node is named at most once": none was named before, none is named twice
+unfoldable pub goodChildren : ℕ → (ℕ → Bool) → List ℕ → Bool
+goodChildren n named cs = allOf (λ c. ltb c n && not (named c)) cs && distinct cs
 
 unfoldable pub goodNode : List ℤ → Header → ℕ → Bool
-goodNode s h n =
-    goodWords h (nodeKind s h n) (node s h n) (word s (firstNode h + n) 1)
-    && goodChildren n (hasLeft (nodeKind s h n)) (leftOf s h n) (namedByNodes s h n (leftOf s h n)) (hasRight (nodeKind s h n)) (rightOf s h n) (namedByNodes s h n (rightOf s h n))
-    && goodTypes (nodeKind s h n) (node s h n .w1) (typeOf s h (leftOf s h n)) (typeOf s h (rightOf s h n))
-    && goodSpan (rangeOf s h n)
+goodNode s h n = goodChildren n (namedByNodes s h n) (childrenOf s h n) && fits (nodeRow s h n) (givenOf s h (itemOf s h) n)

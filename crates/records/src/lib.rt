@@ -3,53 +3,68 @@ ghost use mathlib.Core.Path.{_≡_};
 ghost use Prim.Native.Nat.{ℕ, _≤_, _<_};
 ghost use mathlib.Core.Bool.{true};
 ghost use Rattle.layout.specs.Sized.{Sized};
-ghost use Rattle.records.specs.Facts.{goodBounds, goodSet, goodDefault};
-ghost use Rattle.records.specs.Nodes.{goodChildren};
+ghost use Rattle.node.specs.FactTypes.{factTypeOf};
+ghost use Rattle.records.specs.Facts.{goodDefault};
 ghost use Rattle.records.specs.Entities.{goodEntity, goodChange};
 ghost use Rattle.records.specs.Operations.{goodMask, goodOperation, goodOutcome};
 ghost use Rattle.records.specs.Flows.{goodOperationStep, goodRouteOf};
 use layout::Header;
 use signed::at_most;
 use signed::bounded;
+use signed::same;
 use signed::within;
 use words::Record;
 use words::number;
 use words::unused;
 
-pub fn good_bounds(r: Record, min: i64, max: i64) -> bool
-    ensures { λ b. ⌜ b ≡ goodBounds r min max ⌝ }
+// The tests of a fact by its type.
+pub fn good_bounds(kind: usize, min: i64, max: i64) -> bool
+    ensures { λ b. ⌜ b ≡ factTypeOf kind .bounds min max ⌝ }
 {
     let int = bounded(min) & at_most(min, max) & bounded(max);
-    let kind = r.w0;
+    let zero = same(min, 0);
     match kind {
-        0 => (r.w1 == 0) & (r.w2 == 1),
+        0 => zero & same(max, 1),
         1 => int,
-        2 => (r.w1 == 0) & (r.w2 <= 255),
+        2 => zero & within(0, max, 255),
         3.. => false,
     }
 }
 
-pub fn good_set(r: Record) -> bool
-    ensures { λ b. ⌜ b ≡ goodSet r ⌝ }
+pub fn good_set(kind: usize, set: usize) -> bool
+    ensures { λ b. ⌜ b ≡ factTypeOf kind .takesSet set ⌝ }
 {
-    if r.w0 == 2 { r.w5 <= 127 } else { r.w5 == 0 }
-}
-
-pub fn good_default(r: Record, min: i64, max: i64, default: i64) -> bool
-    ensures { λ b. ⌜ b ≡ goodDefault r min max default ⌝ }
-{
-    let inside = within(min, default, max);
-    if r.w3 == 0 {
-        r.w4 == 0
-    } else {
-        (r.w3 == 1) & inside
+    match kind {
+        0 => set == 0,
+        1 => set == 0,
+        2 => set <= 127,
+        3.. => false,
     }
 }
 
-pub fn good_children(n: usize, l: bool, a: usize, x: bool, r: bool, b: usize, y: bool) -> bool
-    ensures { λ g. ⌜ g ≡ goodChildren n l a x r b y ⌝ }
+// The type of a fact's values.
+pub fn fact_sort(kind: usize, set: usize) -> usize
+    requires { ⌜ set ≤ 127 ⌝ }
+    ensures { λ t. ⌜ t ≡ factTypeOf kind .sort set ⌝ }
 {
-    (!l | ((a < n) & !x)) & (!r | ((b < n) & !y & !(a == b)))
+    match kind {
+        0 => 0,
+        1 => 1,
+        2 => 2 + set,
+        3.. => 0,
+    }
+}
+
+pub fn good_default(flag: usize, min: i64, max: i64, default: i64) -> bool
+    ensures { λ b. ⌜ b ≡ goodDefault flag min max default ⌝ }
+{
+    let inside = within(min, default, max);
+    let zero = same(default, 0);
+    if flag == 0 {
+        zero
+    } else {
+        (flag == 1) & inside
+    }
 }
 
 pub fn good_entity(r: Record) -> bool

@@ -3,35 +3,29 @@
 use mathlib.Core.Path.{_≡_, refl, sym, subst, ap, _∙_}
 use mathlib.Core.Bool.{Bool, true, false}
 use mathlib.Core.List.{List, [], _∷_, _++_}
-use mathlib.Core.Logic.{⊎-elim}
 use Prim.Native.Nat.{ℕ, _+_, _*_, _≤_, _<_}
 use lib.IntN.{ℤ, pos}
 use lib.ListN.{length, replicate, length-replicate}
 use native.Mathlib.Omega.{arith}
 use native.Mathlib.Decide.{decLt}
-use lib.Dec.{leb, ltb}
-use borrow.Author.Tests.{leb-true, ltb-true}
-use Rattle.tables.proofs.Bools.{or-cases}
 use Rattle.tables.specs.Scan.{firstFail}
 use Rattle.tables.proofs.Scanned.{Scanned, first-scan, all-pass}
-use Rattle.tables.proofs.Grown.{grown-at}
 use Rattle.answer.specs.declared.Refusal.the-variants.{Record as BadRecord}
 use Rattle.answer.specs.declared.Status.the-variants.{Done, Refused}
 use Rattle.layout.specs.declared.Header.{Header}
 use Rattle.layout.specs.Header.{headerOf, goodHeader, firstEntity, firstFlow, records}
 use Rattle.layout.specs.Sized.{Sized}
 use Rattle.layout.specs.Groups.{goodGroups}
-use Rattle.layout.proofs.Limits.{sized, sixteen}
+use Rattle.layout.proofs.Limits.{sized}
 use Rattle.records.specs.Accept.{Table, tablesOf, goodIn, firstBad, checked}
 use Rattle.records.specs.Operations.{goodOperation}
 use Rattle.records.proofs.Chain.{First, none, here, later, total, first-scanned, first-good, rest-good}
 use Rattle.records.proofs.Acceptance.{found, bad-record, no-fault}
-use Rattle.records.specs.Nodes.{rangeStep}
-use Rattle.node.specs.Ranges.{span}
-use Rattle.sheet_nodes.specs.Arrays.{Empty, Filled, topStep}
+use Rattle.item.specs.declared.Item.{Item}
+use Rattle.sheet_nodes.specs.Arrays.{Empty, Filled}
 use Rattle.sheet_states.specs.Flags.{Declared}
 use Rattle.sheet_roots.specs.Roots.{Known, Names, NamedByNodes}
-use Rattle.sheet.specs.Parts.{upperTables, middleTables, lowerTables, Ranges, Blank, Zeros, Unmarked, fewNodes}
+use Rattle.sheet.specs.Parts.{upperTables, middleTables, lowerTables, Fresh, Unmarked}
 
 -- ---- one table after the other
 
@@ -111,22 +105,15 @@ module _ (s : List ℤ) (h : Header) where
 
 -- ---- from the nodes' arrays
 
-pub ranges-of : {s : List ℤ} {h : Header} {m w : ℕ} {lows highs : List ℤ} {types tops : List ℕ} {named : List Bool} → Filled s h m w (h .nodes) lows highs types tops named → Ranges s h lows highs
-ranges-of {s} {h} f =
-    record {
-      low = λ n l. f .low n ∙ ap (λ x. x .low) (grown-at (rangeStep s h) (span (pos 0) (pos 0)) (h .nodes) n l);
-      high = λ n l. f .high n ∙ ap (λ x. x .high) (grown-at (rangeStep s h) (span (pos 0) (pos 0)) (h .nodes) n l);
-    }
-
-pub known-of : {s : List ℤ} {h : Header} {m w : ℕ} {lows highs : List ℤ} {types tops : List ℕ} {named : List Bool} → Filled s h m w (h .nodes) lows highs types tops named → Known s h types tops
-known-of {s} {h} f = record { type = f .type; top = λ j l. f .top j ∙ grown-at (topStep s h) 0 (h .nodes) j l; good = f .good }
+pub known-of : {s : List ℤ} {h : Header} {lows highs : List ℤ} {sorts tops : List ℕ} {named : List Bool} → Filled s h (h .nodes) lows highs sorts tops named → Known s h sorts tops
+known-of f = record { type = λ j l. ap (λ (x : Item). x .sort) (f .item j l); top = f .top }
 
 -- flags by how many they are
 pub own-names : {h : Header} {m : ℕ} {f : ℕ → Bool} {named : List Bool} → Names h m f named → Names h (length named) f named
 own-names {h} {m} {f} {named} n = subst (λ (k : ℕ). Names h k f named) (sym (n .long)) n
 
-pub names-of : {s : List ℤ} {h : Header} {m w : ℕ} {lows highs : List ℤ} {types tops : List ℕ} {named : List Bool} → Filled s h m w (h .nodes) lows highs types tops named → Names h (length named) (NamedByNodes s h) named
-names-of f = own-names (record { room = f .space; long = f .name-long; is = f .name })
+pub names-of : {s : List ℤ} {h : Header} {lows highs : List ℤ} {sorts tops : List ℕ} {named : List Bool} → Sized s h → Filled s h (h .nodes) lows highs sorts tops named → Names h (length named) (NamedByNodes s h) named
+names-of z f = own-names (record { room = z .limits .nodes; long = f .name-long; is = f .name })
 
 pub at-most : (f : ℕ → Bool) (n : ℕ) {k : ℕ} → k ≡ firstFail f 0 n → k ≤ n
 at-most f n e = rw e (first-scan f n .high)
@@ -140,10 +127,8 @@ own-declared {s} {h} {m} {k} {t} d = subst (λ (n : ℕ). Declared s h n k t) (s
 
 -- ---- arrays as they are made
 
--- the arrays of zeros with the checker's own
-pub empty-of : {h : Header} {lows highs : List ℤ} (w : ℕ) → Zeros h lows highs → h .nodes ≤ w → Empty h (length lows) (length (replicate {A = ℕ} w 0)) lows highs (replicate w 0) (replicate w 0) (replicate w false)
-empty-of w z l =
-    rw (length-replicate {A = ℕ} w 0) (record { room = z .room; space = l; low = z .low; high = z .high; type = refl; top = refl; name = refl })
+pub empty-of : {sorts : List ℕ} {named : List Bool} → Fresh sorts named → Empty (replicate 1024 (pos 0)) (replicate 1024 (pos 0)) sorts (replicate 1024 0) named
+empty-of f = record { low = refl; high = refl; sort = f .sort; top = refl; name = f .name }
 
 pub unmarked : {h : Header} (e : ℕ) → h .entities ≤ e → Unmarked h (replicate (256 * e) false) (replicate (16 * e) 0)
 unmarked e l =
@@ -153,20 +138,6 @@ unmarked e l =
       stamps = rw (length-replicate {A = ℕ} (16 * e) 0) (omega arith);
       fresh = rw (length-replicate {A = ℕ} (16 * e) 0);
     }
-
--- new arrays of lows and highs
-pub blank : (s : List ℤ) (m : ℕ) → (goodHeader s ≡ true → headerOf s .nodes ≤ m) → Blank s (replicate m (pos 0))
-blank s m l = record { room = λ g. rw (length-replicate m (pos 0)) (l g); zeros = rw (length-replicate m (pos 0)) }
-
-pub blank-few : (s : List ℤ) → fewNodes s ≡ true → Blank s (replicate 128 (pos 0))
-blank-few s f = blank s 128 (λ g. ⊎-elim (λ e. absurd (omega (arith, ltb-true (length s) 16 e, sixteen s g))) (λ e. leb-true (headerOf s .nodes) 128 e) (or-cases (ltb (length s) 16) (leb (headerOf s .nodes) 128) f))
-
-pub blank-many : (s : List ℤ) → Blank s (replicate 1024 (pos 0))
-blank-many s = blank s 1024 (λ g. sized s g .limits .nodes)
-
--- both, under the header that was read
-pub zeros-of : {s : List ℤ} {h : Header} {lows highs : List ℤ} → Blank s lows → Blank s highs → length highs ≡ length lows → h ≡ headerOf s → goodHeader s ≡ true → Zeros h lows highs
-zeros-of {highs = highs} a b l e g = record { room = rw e (a .room g); low = a .zeros; high = subst (λ (k : ℕ). highs ≡ replicate k (pos 0)) l (b .zeros) }
 
 -- ---- the answer, from the header that was read
 

@@ -1,23 +1,30 @@
 -- The array of maxes: what it holds after k good facts, and that the scan's test is the definition's.
 -- Assumes nothing.
-use mathlib.Core.Path.{_≡_, refl, sym, _∙_}
+use mathlib.Core.Path.{_≡_, refl, sym, ap, _∙_}
 use mathlib.Core.Bool.{Bool, true, false, not, _&&_, _||_}
 use mathlib.Core.List.{List}
 use mathlib.Core.Logic.{_⊎_, inl, inr, ⊎-elim}
-use Prim.Native.Nat.{ℕ, _+_, _≤_, _<_}
-use lib.IntN.{ℤ}
+use Prim.Native.Nat.{ℕ, zero, suc, _+_, _≤_, _<_}
+use lib.IntN.{ℤ, pos}
 use lib.Dec.{eqb}
 use lib.ListN.{length, getD, set, replicate, length-replicate, getD-replicate, length-set}
 use lib.Seq.{getD-set-same, getD-set-other}
 use native.Mathlib.Omega.{arith}
 use native.Mathlib.Decide.{ℕ-discrete}
-use borrow.Author.Tests.{eq-eqb, ne-eqb, eqb-true}
+use borrow.Author.Tests.{le-leb, lt-leb, eq-eqb, ne-eqb, eqb-true}
 use Rattle.tables.specs.Scan.{allBelow}
-use Rattle.tables.proofs.Bools.{bool-cases, same-tests, tests, or-true-right, and-left, and-right}
+use Rattle.tables.proofs.Bools.{bool-cases, same-tests, tests, and-iff, and-no, or-true-right, and-left, and-right}
 use Rattle.tables.proofs.Scans.{all-at, all-of, extend-one}
+use Rattle.signed.specs.Words.{num, eqZ}
+use Rattle.signed.proofs.Parts.{eq-true, true-eq}
+use Rattle.signed.proofs.Bounds.{in-true}
+use Rattle.signed.proofs.Numbers.{num-is, num-pos, in-num}
 use Rattle.words.specs.declared.Record.{Record}
+use Rattle.words.specs.Record.{number, recordAt}
 use Rattle.layout.specs.Tables.{fact}
-use Rattle.records.specs.Facts.{goodBounds, goodSet, agree, goodFact}
+use Rattle.item.specs.Sorts.{isEnum}
+use Rattle.node.specs.FactTypes.{factTypeOf}
+use Rattle.records.specs.Facts.{maxOf, setOf, factSort, agree, goodFact}
 use Rattle.sheet_facts.specs.Maxes.{goodAlone, agrees, noted}
 
 -- an earlier fact of set x whose max is m
@@ -45,53 +52,79 @@ none s =
 
 -- an Enum fact that is good by itself has a set below 128 and a max below 256
 alone-set : (s : List ℤ) (k : ℕ) → goodAlone s k ≡ true → fact s k .w0 ≡ 2 → fact s k .w5 < 128
-unfolding goodAlone goodSet
-alone-set s k p e = let q = simp tests at (rw (eq-eqb (fact s k .w0) 2 e) at p) in omega (arith, q .0 .0 .1)
+unfolding goodAlone recordAt factTypeOf
+alone-set s k p e = let q = simp tests at (rw e at p) in omega (arith, q .0 .0 .1)
 
 alone-max : (s : List ℤ) (k : ℕ) → goodAlone s k ≡ true → fact s k .w0 ≡ 2 → fact s k .w2 ≤ 255
-unfolding goodAlone goodBounds
-alone-max s k p e = let q = simp tests at (rw e at p) in omega (arith, q .0 .0 .0 .1)
+unfolding goodAlone recordAt factTypeOf
+alone-max s k p e =
+    let q = simp and-iff at (rw e at p) in
+    in-num (maxOf s k) (in-true (pos 0) (maxOf s k) (pos 255) (q .0 .0 .0 .1)) .1
 
 alone : (s : List ℤ) (k : ℕ) → goodFact s k ≡ true → goodAlone s k ≡ true
 unfolding goodFact goodAlone
-alone s k p = and-left _ (allBelow (λ j. agree (fact s j) (fact s k)) k) p
+alone s k p = and-left _ (allBelow (λ j. agree s j k) k) p
+
+-- the type of an Enum is its set past 1; the others are 0 and 1
+sort-enum : (s : List ℤ) (k : ℕ) → fact s k .w0 ≡ 2 → factSort s k ≡ 2 + fact s k .w5
+unfolding recordAt factTypeOf
+sort-enum s k e = ap (λ (t : ℕ). factTypeOf t .sort (setOf s k)) e
+
+sort-other : (s : List ℤ) (k : ℕ) → (fact s k .w0 ≡ 2 → ⊥) → factSort s k ≤ 1
+unfolding recordAt
+sort-other s k d = few (number s k 0) (setOf s k) d
+  where
+    few : (t u : ℕ) → (t ≡ 2 → ⊥) → factTypeOf t .sort u ≤ 1
+    few zero u d = unfold factTypeOf in omega arith
+    few (suc zero) u d = unfold factTypeOf in omega arith
+    few (suc (suc zero)) u d = absurd (d refl)
+    few (suc (suc (suc t))) u d = unfold factTypeOf in omega arith
 
 -- two facts agree unless both are Enums of one set with two maxes
-agree-enum : (q r : Record) → agree q r ≡ true → q .w0 ≡ 2 → r .w0 ≡ 2 → q .w5 ≡ r .w5 → q .w2 ≡ r .w2
-unfolding agree
-agree-enum q r p a b e = eqb-true (q .w2) (r .w2) (rw (eq-eqb (q .w0) 2 a, eq-eqb (r .w0) 2 b, eq-eqb (q .w5) (r .w5) e) at p)
+agree-enum : (s : List ℤ) (j k : ℕ) → agree s j k ≡ true → fact s j .w0 ≡ 2 → fact s k .w0 ≡ 2 → fact s j .w5 ≡ fact s k .w5 → fact s j .w2 ≡ fact s k .w2
+unfolding agree recordAt
+agree-enum s j k p a b e =
+    let enum : isEnum (factSort s j) ≡ true = le-leb 2 (factSort s j) (omega (arith, sort-enum s j a)) in
+    let same : eqb (factSort s j) (factSort s k) ≡ true = eq-eqb (factSort s j) (factSort s k) (omega (arith, sort-enum s j a, sort-enum s k b)) in
+    ap num (eq-true (maxOf s j) (maxOf s k) (rw (enum, same) at p))
 
-enum-agree : (q r : Record) → (q .w0 ≡ 2 → r .w0 ≡ 2 → q .w5 ≡ r .w5 → q .w2 ≡ r .w2) → agree q r ≡ true
+enum-agree : (s : List ℤ) (j k : ℕ) → (fact s j .w0 ≡ 2 → fact s k .w0 ≡ 2 → fact s j .w5 ≡ fact s k .w5 → maxOf s j ≡ maxOf s k) → agree s j k ≡ true
 unfolding agree
-enum-agree q r h = go (ℕ-discrete (q .w0) 2) (ℕ-discrete (r .w0) 2) (ℕ-discrete (q .w5) (r .w5))
+enum-agree s j k h = go (ℕ-discrete (fact s j .w0) 2) (ℕ-discrete (fact s k .w0) 2) (ℕ-discrete (fact s j .w5) (fact s k .w5))
   where
-    go : Dec (q .w0 ≡ 2) → Dec (r .w0 ≡ 2) → Dec (q .w5 ≡ r .w5) → (not (eqb (q .w0) 2 && eqb (r .w0) 2 && eqb (q .w5) (r .w5)) || eqb (q .w2) (r .w2)) ≡ true
-    go (yes a) (yes b) (yes e) = rw (eq-eqb (q .w2) (r .w2) (h a b e)) (or-true-right (not (eqb (q .w0) 2 && eqb (r .w0) 2 && eqb (q .w5) (r .w5))) true refl)
-    go (no a) d f = rw (ne-eqb (q .w0) 2 a)
-    go (yes a) (no b) f = rw (eq-eqb (q .w0) 2 a, ne-eqb (r .w0) 2 b)
-    go (yes a) (yes b) (no e) = rw (eq-eqb (q .w0) 2 a, eq-eqb (r .w0) 2 b, ne-eqb (q .w5) (r .w5) e)
+    apart : (factSort s j ≡ factSort s k → ⊥) → (not (isEnum (factSort s j) && eqb (factSort s j) (factSort s k)) || eqZ (maxOf s j) (maxOf s k)) ≡ true
+    apart d = rw (ne-eqb (factSort s j) (factSort s k) d, and-no (isEnum (factSort s j)))
+
+    go : Dec (fact s j .w0 ≡ 2) → Dec (fact s k .w0 ≡ 2) → Dec (fact s j .w5 ≡ fact s k .w5) → (not (isEnum (factSort s j) && eqb (factSort s j) (factSort s k)) || eqZ (maxOf s j) (maxOf s k)) ≡ true
+    go (yes a) (yes b) (yes e) = or-true-right (not (isEnum (factSort s j) && eqb (factSort s j) (factSort s k))) (eqZ (maxOf s j) (maxOf s k)) (true-eq (maxOf s j) (maxOf s k) (h a b e))
+    go (no a) d f = rw (lt-leb 2 (factSort s j) (omega (arith, sort-other s j a)))
+    go (yes a) (no b) f = apart (λ z. omega (arith, sort-enum s j a, sort-other s k b, z))
+    go (yes a) (yes b) (no e) = apart (λ z. e (omega (arith, sort-enum s j a, sort-enum s k b, z)))
 
 module _ (s : List ℤ) (k : ℕ) (t : List ℕ) (n : Noted s k t) (a : goodAlone s k ≡ true) where
   abbrev seen : ℕ
   seen = getD t (fact s k .w5) 0
 
   -- every earlier fact agrees, so the array's max is the fact's or none
-  to-seen : allBelow (λ j. agree (fact s j) (fact s k)) k ≡ true → agrees (fact s k) seen ≡ true
+  to-seen : allBelow (λ j. agree s j k) k ≡ true → agrees (fact s k) seen ≡ true
   to-seen p = go (ℕ-discrete (fact s k .w0) 2)
     where
       found : fact s k .w0 ≡ 2 → (seen ≡ 256) ⊎ Source s k (fact s k .w5) seen → agrees (fact s k) seen ≡ true
       found e (inl z) = rw (eq-eqb (fact s k .w0) 2 e, eq-eqb seen 256 z)
       found e (inr w) =
-          let same = agree-enum (fact s (w .j)) (fact s k) (all-at (λ j. agree (fact s j) (fact s k)) k p (w .j) (w .before)) (w .enum) e (w .set) in
+          let same = agree-enum s (w .j) k (all-at (λ j. agree s j k) k p (w .j) (w .before)) (w .enum) e (w .set) in
           or-true-right (not (eqb (fact s k .w0) 2) || eqb seen 256) (eqb seen (fact s k .w2)) (eq-eqb seen (fact s k .w2) (sym (w .max) ∙ same))
 
       go : Dec (fact s k .w0 ≡ 2) → agrees (fact s k) seen ≡ true
       go (yes e) = found e (n .some (fact s k .w5) (alone-set s k a e))
       go (no d) = rw (ne-eqb (fact s k .w0) 2 d)
 
-  from-seen : agrees (fact s k) seen ≡ true → allBelow (λ j. agree (fact s j) (fact s k)) k ≡ true
-  from-seen p = all-of (λ j. agree (fact s j) (fact s k)) k (λ j l. enum-agree (fact s j) (fact s k) (λ x y e. same j l x y e))
+  from-seen : agrees (fact s k) seen ≡ true → allBelow (λ j. agree s j k) k ≡ true
+  from-seen p = all-of (λ j. agree s j k) k (λ j l. enum-agree s j k (λ x y e. words j (alone-max s k a y) (same j l x y e)))
     where
+      words : (j : ℕ) → fact s k .w2 ≤ 255 → fact s j .w2 ≡ fact s k .w2 → maxOf s j ≡ maxOf s k
+      words j l e = unfold recordAt in num-pos (maxOf s j) e (omega (arith, l)) ∙ sym (num-is (maxOf s k) (omega (arith, l)))
+
       same : (j : ℕ) → j < k → fact s j .w0 ≡ 2 → fact s k .w0 ≡ 2 → fact s j .w5 ≡ fact s k .w5 → fact s j .w2 ≡ fact s k .w2
       same j l x y e =
           let m : seen ≡ fact s j .w2 = rw (← e) (n .held j l x) in
@@ -105,18 +138,18 @@ pub judged : (s : List ℤ) (k : ℕ) (t : List ℕ) → Noted s k t → (goodAl
 unfolding goodFact goodAlone
 judged s k t n = ⊎-elim yes′ no′ (bool-cases (goodAlone s k))
   where
-    yes′ : goodAlone s k ≡ true → (goodAlone s k && agrees (fact s k) (getD t (fact s k .w5) 0)) ≡ (goodAlone s k && allBelow (λ j. agree (fact s j) (fact s k)) k)
-    yes′ a = rw a (same-tests (agrees (fact s k) (getD t (fact s k .w5) 0)) (allBelow (λ j. agree (fact s j) (fact s k)) k) (from-seen s k t n a) (to-seen s k t n a))
+    yes′ : goodAlone s k ≡ true → (goodAlone s k && agrees (fact s k) (getD t (fact s k .w5) 0)) ≡ (goodAlone s k && allBelow (λ j. agree s j k) k)
+    yes′ a = rw a (same-tests (agrees (fact s k) (getD t (fact s k .w5) 0)) (allBelow (λ j. agree s j k) k) (from-seen s k t n a) (to-seen s k t n a))
 
-    no′ : goodAlone s k ≡ false → (goodAlone s k && agrees (fact s k) (getD t (fact s k .w5) 0)) ≡ (goodAlone s k && allBelow (λ j. agree (fact s j) (fact s k)) k)
+    no′ : goodAlone s k ≡ false → (goodAlone s k && agrees (fact s k) (getD t (fact s k .w5) 0)) ≡ (goodAlone s k && allBelow (λ j. agree s j k) k)
     no′ a = rw a
 
 -- a good fact has the max of every earlier Enum of its set
 agreed : (s : List ℤ) (k : ℕ) → goodFact s k ≡ true → (j : ℕ) → j < k → fact s j .w0 ≡ 2 → fact s k .w0 ≡ 2 → fact s j .w5 ≡ fact s k .w5 → fact s j .w2 ≡ fact s k .w2
 unfolding goodFact goodAlone
 agreed s k g j l x y e =
-    agree-enum (fact s j) (fact s k)
-    (all-at (λ j. agree (fact s j) (fact s k)) k (and-right (goodAlone s k) (allBelow (λ j. agree (fact s j) (fact s k)) k) g) j l) x y e
+    agree-enum s j k
+    (all-at (λ j. agree s j k) k (and-right (goodAlone s k) (allBelow (λ j. agree s j k) k) g) j l) x y e
 
 -- one good fact more
 pub more : (s : List ℤ) (k : ℕ) (t : List ℕ) → Noted s k t → goodFact s k ≡ true → Noted s (k + 1) (noted (fact s k) t)

@@ -7,15 +7,15 @@ use mathlib.Core.List.{List}
 use lib.Dec.{eqb}
 use lib.ListN.{set}
 use Rattle.words.specs.declared.Record.{Record}
-use Rattle.words.specs.Record.{word, unused}
+use Rattle.words.specs.Record.{unused}
 use Rattle.layout.specs.Tables.{fact}
-use Rattle.records.specs.Facts.{goodBounds, goodSet, goodDefault}
+use Rattle.records.specs.Facts.{typeRow, minOf, maxOf, defaultFlag, defaultOf, setOf, goodDefault}
 
 unfoldable pub goodAlone : List ℤ → ℕ → Bool
 goodAlone s k =
-    goodBounds (fact s k) (word s k 1) (word s k 2)
-    && goodSet (fact s k)
-    && goodDefault (fact s k) (word s k 1) (word s k 2) (word s k 4)
+    typeRow s k .bounds (minOf s k) (maxOf s k)
+    && typeRow s k .takesSet (setOf s k)
+    && goodDefault (defaultFlag s k) (minOf s k) (maxOf s k) (defaultOf s k)
     && unused 6 (fact s k)
 
 abbrev pub agrees : Record → ℕ → Bool

@@ -24,7 +24,10 @@ fn good_alone(s: &[i64], k: usize, r: Record) -> bool
     let min = word(s, k, 1);
     let max = word(s, k, 2);
     let default = word(s, k, 4);
-    good_bounds(r, min, max) & good_set(r) & good_default(r, min, max, default) & unused(6, r)
+    good_bounds(r.w0, min, max)
+        & good_set(r.w0, r.w5)
+        & good_default(r.w3, min, max, default)
+        & unused(6, r)
 }
 
 fn agrees(r: Record, max: usize) -> bool

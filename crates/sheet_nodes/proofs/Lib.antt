@@ -1,3 +1,4 @@
-pub mod Parts
-pub mod Found
-pub mod Arrays
+pub mod Kids
+pub mod Tops
+pub mod Scan
+pub mod Turns

@@ -13,7 +13,7 @@ use borrow.Author.Tests.{le-ltb}
 use Rattle.tables.specs.Table.{marked}
 use Rattle.tables.proofs.Entries.{marked-flags, length-marked}
 use Rattle.layout.specs.declared.Header.{Header}
-use Rattle.records.specs.Nodes.{typeOf}
+use Rattle.records.specs.Nodes.{itemOf}
 use Rattle.records.specs.Names.{goodRoot}
 use Rattle.sheet_roots.specs.Roots.{Typed, Names, rootTest}
 
@@ -22,7 +22,7 @@ pub root-is : (s : List ℤ) (h : Header) (a : ℕ) (types : List ℕ) {f : ℕ 
 unfolding goodRoot
 root-is s h a types {f} {named} t n = go (decLt a (h .nodes))
   where
-    go : Dec (a < h .nodes) → (ltb a (h .nodes) && eqb (getD types a 0) 0 && not (getD named a false)) ≡ (ltb a (h .nodes) && eqb (typeOf s h a) 0 && not (f a))
+    go : Dec (a < h .nodes) → (ltb a (h .nodes) && eqb (getD types a 0) 0 && not (getD named a false)) ≡ (ltb a (h .nodes) && eqb (itemOf s h a .sort) 0 && not (f a))
     go (yes l) = rw (t a l, n .is a (omega (arith, n .room)))
     go (no x) = rw (le-ltb a (h .nodes) (omega arith))
 

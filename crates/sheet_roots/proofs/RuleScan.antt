@@ -60,7 +60,7 @@ module _ (s : List ℤ) (h : Header) (k : ℕ) {types tops : List ℕ} {named : 
 
   cites-of : goodRoot s h (rule s h k .w1) (namedByRules s h k (rule s h k .w1)) ≡ true → cites ≡ citesLower s h k (rule s h k .w1)
   cites-of p =
-      ec ∙ rw (et, is) (rw (known .top (rule s h k .w1) (inside p)) (sym (cites-is s h k (rising s h k (w .good)) (known .good) (rule s h k .w1) (inside p))))
+      ec ∙ rw (et, is) (rw (known .top (rule s h k .w1) (inside p)) (sym (cites-is s h k (rising s h k (w .good)) (rule s h k .w1))))
 
   test : (leb (r .w0) 15 && risen && rooted && u && cites) ≡ goodRule s h k
   unfolding goodRule

@@ -1,7 +1,7 @@
 -- What the scans of rules, operations and steps read from the nodes' arrays, and the flags of named nodes.
 -- Assumes nothing.
 use mathlib.Core.Path.{_≡_}
-use mathlib.Core.Bool.{Bool, true, false, not, cond, _&&_, _||_}
+use mathlib.Core.Bool.{Bool, false, not, cond, _&&_, _||_}
 use mathlib.Core.List.{List}
 use Prim.Native.Nat.{ℕ, _-_, _≤_, _<_}
 use lib.IntN.{ℤ}
@@ -9,20 +9,19 @@ use lib.Dec.{leb, ltb, eqb}
 use lib.ListN.{length, getD}
 use Rattle.words.specs.declared.Record.{Record}
 use Rattle.layout.specs.declared.Header.{Header}
-use Rattle.records.specs.Nodes.{typeOf, namedByNodes, goodNode}
+use Rattle.records.specs.Nodes.{itemOf, namedByNodes}
 use Rattle.records.specs.Rules.{stratum}
 use Rattle.records.specs.Flows.{goodOperationStep}
 use Rattle.sheet_nodes.specs.Arrays.{topOf}
 
 -- the types of the nodes
 abbrev pub Typed : List ℤ → Header → List ℕ → Type 0
-Typed s h types = (j : ℕ) → j < h .nodes → getD types j 0 ≡ typeOf s h j
+Typed s h types = (j : ℕ) → j < h .nodes → getD types j 0 ≡ itemOf s h j .sort
 
 -- and the greatest rules that their trees cite
 pub record Known (s : List ℤ) (h : Header) (types tops : List ℕ) : Type 0 where
   pub type : Typed s h types
   pub top : (j : ℕ) → j < h .nodes → getD tops j 0 ≡ topOf s h j
-  pub good : (j : ℕ) → j < h .nodes → goodNode s h j ≡ true
 
 -- the flags, m of them and enough for the nodes, say which nodes are named
 pub record Names (h : Header) (m : ℕ) (f : ℕ → Bool) (named : List Bool) : Type 0 where

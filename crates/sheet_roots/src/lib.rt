@@ -7,12 +7,12 @@ pub mod rules;
 pub mod steps;
 
 use layout::Header;
-use tables::entry;
 use tables::flag;
+use tables::short_entry;
 
 // Whether node a can be a root: it exists, is Bool, and has not been named.
-fn root(h: Header, types: &[usize], named: &[bool], a: usize) -> bool
-    ensures { λ b. ⌜ b ≡ rootTest h a (now (types .entry)) (now (named .entry)) ⌝ }
+fn root(h: Header, sorts: &[u16], named: &[bool], a: usize) -> bool
+    ensures { λ b. ⌜ b ≡ rootTest h a (now (sorts .entry)) (now (named .entry)) ⌝ }
 {
-    (a < h.nodes) & (entry(types, a) == 0) & !flag(named, a)
+    (a < h.nodes) & (short_entry(sorts, a) == 0) & !flag(named, a)
 }

@@ -3,3 +3,5 @@ pub mod Scans
 pub mod Scanned
 pub mod Grown
 pub mod Entries
+pub mod Lists
+pub mod Ints

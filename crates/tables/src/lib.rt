@@ -17,6 +17,25 @@ pub fn word_entry(t: &[i64], i: usize) -> i64
     if i < t.len() { t[i] } else { 0 }
 }
 
+// The same of smaller elements.
+pub fn int_entry(t: &[i32], i: usize) -> i64
+    ensures { λ r. ⌜ r ≡ getD (now (t .entry)) i (pos 0) ⌝ }
+{
+    if i < t.len() { t[i] as i64 } else { 0 }
+}
+
+pub fn short_entry(t: &[u16], i: usize) -> usize
+    ensures { λ r. ⌜ r ≡ getD (now (t .entry)) i 0 ⌝ }
+{
+    if i < t.len() { t[i] as usize } else { 0 }
+}
+
+pub fn byte_entry(t: &[u8], i: usize) -> usize
+    ensures { λ r. ⌜ r ≡ getD (now (t .entry)) i 0 ⌝ }
+{
+    if i < t.len() { t[i] as usize } else { 0 }
+}
+
 pub fn flag(t: &[bool], i: usize) -> bool
     ensures { λ r. ⌜ r ≡ getD (now (t .entry)) i false ⌝ }
 {

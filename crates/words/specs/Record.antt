@@ -9,6 +9,7 @@ use lib.ListN.{getD}
 use lib.Dec.{ltb, eqb}
 use Rattle.signed.specs.Words.{num}
 use Rattle.words.specs.declared.Record.{Record}
+use Rattle.words.specs.declared.Words.{Words}
 
 -- word j of record k
 abbrev pub word : List ℤ → ℕ → ℕ → ℤ
@@ -22,6 +23,16 @@ number s k j = num (word s k j)
 unfoldable pub recordAt : List ℤ → ℕ → Record
 recordAt s k =
     record { w0 = number s k 0; w1 = number s k 1; w2 = number s k 2; w3 = number s k 3; w4 = number s k 4; w5 = number s k 5; w6 = number s k 6; w7 = number s k 7 }
+
+-- record k, its words as they stand
+unfoldable pub wordsAt : List ℤ → ℕ → Words
+wordsAt s k =
+    record { w0 = word s k 0; w1 = word s k 1; w2 = word s k 2; w3 = word s k 3; w4 = word s k 4; w5 = word s k 5; w6 = word s k 6; w7 = word s k 7 }
+
+-- a record's words as natural numbers: `numbersOf (wordsAt s k)` is `recordAt s k`
+unfoldable pub numbersOf : Words → Record
+numbersOf w =
+    record { w0 = num (w .w0); w1 = num (w .w1); w2 = num (w .w2); w3 = num (w .w3); w4 = num (w .w4); w5 = num (w .w5); w6 = num (w .w6); w7 = num (w .w7) }
 
 -- the words from number n on are 0: "unused words are 0"
 unfoldable pub unused : ℕ → Record → Bool

@@ -4,7 +4,7 @@ ghost use Prim.Native.Nat.{_+_, _*_, _≤_, _<_};
 ghost use lib.IntN.{pos};
 ghost use lib.ListN.{length, getD};
 ghost use Rattle.signed.specs.Words.{num};
-ghost use Rattle.words.specs.Record.{word, number, recordAt, unused};
+ghost use Rattle.words.specs.Record.{word, number, recordAt, wordsAt, numbersOf, unused};
 use signed::num;
 
 // A record's eight words as natural numbers.
@@ -17,6 +17,18 @@ pub struct Record {
     pub w5: usize,
     pub w6: usize,
     pub w7: usize,
+}
+
+// A record's eight words as they stand: facts and nodes have words that may be negative.
+pub struct Words {
+    pub w0: i64,
+    pub w1: i64,
+    pub w2: i64,
+    pub w3: i64,
+    pub w4: i64,
+    pub w5: i64,
+    pub w6: i64,
+    pub w7: i64,
 }
 
 // The word at a place of the sheet, as a natural number.
@@ -56,6 +68,37 @@ pub fn number(s: &[i64], k: usize, j: usize) -> usize
     ensures { λ r. ⌜ r ≡ number (now (s .entry)) k j ⌝ }
 {
     number_at(s, 16 + 8 * k + j)
+}
+
+pub fn words_at(s: &[i64], k: usize) -> Words
+    requires { ⌜ 16 + 8 * k + 8 ≤ length (now s) ⌝ }
+    ensures { λ r. ⌜ r ≡ wordsAt (now (s .entry)) k ⌝ }
+{
+    Words {
+        w0: word(s, k, 0),
+        w1: word(s, k, 1),
+        w2: word(s, k, 2),
+        w3: word(s, k, 3),
+        w4: word(s, k, 4),
+        w5: word(s, k, 5),
+        w6: word(s, k, 6),
+        w7: word(s, k, 7),
+    }
+}
+
+pub fn numbers_of(w: Words) -> Record
+    ensures { λ r. ⌜ r ≡ numbersOf w ⌝ }
+{
+    Record {
+        w0: num(w.w0),
+        w1: num(w.w1),
+        w2: num(w.w2),
+        w3: num(w.w3),
+        w4: num(w.w4),
+        w5: num(w.w5),
+        w6: num(w.w6),
+        w7: num(w.w7),
+    }
 }
 
 pub fn unused(from: usize, r: Record) -> bool

@@ -1,5 +1,6 @@
 -- `causes::admissible` meets its contract. Assumes nothing.
-use Rattle.causes.specs.Causes.{admissible}
+use Rattle.causes.proofs.Causing.{admissible-as, inadmissible}
+use Rattle.causes.specs.Causes.{wanted}
 use borrow.Author.Needs.{needs}
 use Rattle.causes.proofs.admissible.Statement.{statement}
 use Rattle.causes.proofs.admissible.Tie as tie
@@ -7,16 +8,27 @@ use Rattle.causes.proofs.admissible.Tie as tie
 allows-requires : tie.Need-allows-requires
 allows-requires c κs = search needs
 
-some-leaves-requires : tie.Need-some-leaves-requires
-some-leaves-requires c κs = search needs
+some-effect-requires : tie.Need-some-effect-requires
+some-effect-requires c κs = search needs
 
 can-be-true-requires : tie.Need-can-be-true-requires
 can-be-true-requires c κs = search needs
 
 returns : tie.Need-returns
-unfolding admissible
-returns c = rw (c .before .before .allows .ensures, c .before .some-leaves .ensures, c .can-be-true .ensures)
+unfolding wanted
+returns c =
+    let at-some-effect = c .before .before in
+    let at-allows = at-some-effect .before in
+    admissible-as _ _ _ _ _ _ _ _ (at-allows .allows .ensures) (at-some-effect .some-effect .ensures) _ (c .before .if1 .taken)
+    (c .can-be-true .ensures)
+
+returns-2 : tie.Need-returns-2
+unfolding wanted
+returns-2 c =
+    let at-allows = c .before .before in
+    inadmissible _ _ _ _ _ _ _ _ (at-allows .allows .ensures) (c .before .some-effect .ensures) (c .if1 .left)
 
 pub admissible-spec : {M : Type 1} → statement M
 admissible-spec =
-    tie.close (tie.spec allows-requires some-leaves-requires can-be-true-requires returns)
+    tie.close
+    (tie.spec allows-requires some-effect-requires can-be-true-requires returns returns-2)

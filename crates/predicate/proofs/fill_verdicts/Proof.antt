@@ -1,5 +1,5 @@
 -- `predicate::fill_verdicts` meets its contract: the verdicts passed are stored. Assumes nothing.
-use Rattle.predicate.specs.Values.{bit}
+use Rattle.node.specs.Rows.{bit}
 use Rattle.words.specs.Record.{recordAt}
 use Rattle.signed.proofs.Fit.{back-of}
 use lib.Seq.{length-take-le}
@@ -36,7 +36,11 @@ slice-aggregate-is-true c = sym (length-take-le _ _ (search needs))
 
 is-true-requires : tie.Need-is-true-requires Inv-loop μ-loop
 unfolding recordAt
-is-true-requires c κs = rw (c .before .number .ensures) (judging (c .before .before .before .before .before .pre .0) (c .before .before .before .before .before .pre .1) (c .before .before .before .loop .inv) (c .before .before .loop-test .taken))
+is-true-requires c κs =
+    let at-loop-test = c .before .before in
+    let at-loop = at-loop-test .before in
+    let at-start = at-loop .before .before in
+    rw (c .before .number .ensures) (judging (at-start .pre .0) (at-start .pre .1) (at-loop .loop .inv) (at-loop-test .loop-test .taken))
 
 bit-requires : tie.Need-bit-requires Inv-loop μ-loop
 bit-requires c κs = search needs
@@ -55,7 +59,12 @@ loop-less c = search needs
 
 loop-again : tie.Need-loop-again Inv-loop μ-loop
 unfolding recordAt
-loop-again c = more _ _ _ _ _ _ _ (c .before .before .before .before .before .loop .inv) (c .before .before .before .before .loop-test .taken) (back-of (c .bit .result) (c .bit .ok) ∙ c .bit .ensures ∙ ap bit (rw (c .before .before .before .number .ensures) at (c .before .is-true .ensures)))
+loop-again c =
+    let at-number = c .before .before .before in
+    let at-loop-test = at-number .before in
+    let at-loop = at-loop-test .before in
+    more _ _ _ _ _ _ _ (at-loop .loop .inv) (at-loop-test .loop-test .taken)
+    (back-of (c .bit .result) (c .bit .ok) ∙ c .bit .ensures ∙ ap bit (rw (at-number .number .ensures) at (c .before .is-true .ensures)))
 
 same-length : tie.Need-same-length Inv-loop μ-loop
 same-length c = search needs

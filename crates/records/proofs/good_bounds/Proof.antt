@@ -1,7 +1,8 @@
 -- `records::good_bounds` meets its contract. Assumes nothing.
-use Rattle.records.specs.Facts.{goodBounds}
-use borrow.Author.Tests.{ne-eqb}
 use Rattle.signed.proofs.Fit.{back}
+use Rattle.node.proofs.Judged.{past}
+use Rattle.node.proofs.FactTypeLaws.{type-past}
+use Rattle.node.specs.FactTypes.{factTypeOf}
 use borrow.Author.Needs.{needs}
 use Rattle.records.proofs.good_bounds.Statement.{statement}
 use Rattle.records.proofs.good_bounds.Tie as tie
@@ -15,19 +16,32 @@ at-most-requires c κs = search needs
 bounded-requires-2 : tie.Need-bounded-requires-2
 bounded-requires-2 c κs = search needs
 
+same-requires : tie.Need-same-requires
+same-requires c κs = search needs
+
+same-requires-2 : tie.Need-same-requires-2
+same-requires-2 c κs = search needs
+
+within-requires : tie.Need-within-requires
+within-requires c κs = search needs
+
 returns : tie.Need-returns
-unfolding goodBounds
-returns c = rw (c .before .before .match .keys1)
+unfolding factTypeOf
+returns c =
+    let at-same = c .before .before in
+    let at-start = at-same .before .before .before .before in
+    rw (c .before .match .keys1, c .same2 .ensures, at-same .same .ensures, back (at-start .fits .min), back (at-start .fits .max))
 
 returns-2 : tie.Need-returns-2
-unfolding goodBounds
+unfolding factTypeOf
 returns-2 c =
-    let at-at-most = c .before .before in
+    let at-bounded2 = c .before .before in
+    let at-at-most = at-bounded2 .before in
     let at-bounded = at-at-most .before in
     let at-start = at-bounded .before in
     rw (
       c .match .keys2,
-      c .before .bounded2 .ensures,
+      at-bounded2 .bounded2 .ensures,
       at-at-most .at-most .ensures,
       at-bounded .bounded .ensures,
       back (at-start .fits .min),
@@ -35,12 +49,14 @@ returns-2 c =
     )
 
 returns-3 : tie.Need-returns-3
-unfolding goodBounds
-returns-3 c = rw (c .before .before .match .keys3)
+unfolding factTypeOf
+returns-3 c =
+    let at-same = c .before .before in
+    let at-start = at-same .before .before .before .before in
+    rw (c .before .match .keys3, c .within .ensures, at-same .same .ensures, back (at-start .fits .min), back (at-start .fits .max))
 
 returns-4 : tie.Need-returns-4
-unfolding goodBounds
-returns-4 c = rw (ne-eqb _ _ (c .match .rest .0 .0 .1), ne-eqb _ _ (c .match .rest .0 .1), ne-eqb _ _ (c .match .rest .1))
+returns-4 c = rw (type-past _ (past 3 _ (c .match .rest)))
 
 pub good-bounds-spec : {M : Type 1} → statement M
 good-bounds-spec =
@@ -49,6 +65,9 @@ good-bounds-spec =
     bounded-requires
     at-most-requires
     bounded-requires-2
+    same-requires
+    same-requires-2
+    within-requires
     returns
     returns-2
     returns-3

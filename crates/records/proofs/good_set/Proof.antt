@@ -1,16 +1,25 @@
 -- `records::good_set` meets its contract. Assumes nothing.
-use Rattle.records.specs.Facts.{goodSet}
-use borrow.Author.Tests.{eq-eqb, ne-eqb}
+use Rattle.node.proofs.Judged.{past}
+use Rattle.node.proofs.FactTypeLaws.{type-past}
+use Rattle.node.specs.FactTypes.{factTypeOf}
+use borrow.Author.Needs.{needs}
 use Rattle.records.proofs.good_set.Statement.{statement}
 use Rattle.records.proofs.good_set.Tie as tie
 
 returns : tie.Need-returns
-unfolding goodSet
-returns c = rw (eq-eqb _ _ (c .before .if1 .taken))
+unfolding factTypeOf
+returns c = rw (c .match .keys1)
 
 returns-2 : tie.Need-returns-2
-unfolding goodSet
-returns-2 c = rw (ne-eqb _ _ (c .before .if1 .left))
+unfolding factTypeOf
+returns-2 c = rw (c .match .keys2)
+
+returns-3 : tie.Need-returns-3
+unfolding factTypeOf
+returns-3 c = rw (c .match .keys3)
+
+returns-4 : tie.Need-returns-4
+returns-4 c = rw (type-past _ (past 3 _ (c .match .rest)))
 
 pub good-set-spec : {M : Type 1} → statement M
-good-set-spec = tie.close (tie.spec returns returns-2)
+good-set-spec = tie.close (tie.spec returns returns-2 returns-3 returns-4)

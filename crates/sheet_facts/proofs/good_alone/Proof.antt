@@ -1,4 +1,5 @@
 -- `sheet_facts::good_alone` meets its contract. Assumes nothing.
+use Rattle.words.specs.Record.{recordAt}
 use Rattle.sheet_facts.specs.Maxes.{goodAlone}
 use Rattle.signed.proofs.Fit.{back-of}
 use borrow.Author.Needs.{needs}
@@ -27,7 +28,7 @@ unused-requires : tie.Need-unused-requires
 unused-requires c κs = search needs
 
 returns : tie.Need-returns
-unfolding goodAlone
+unfolding goodAlone recordAt
 returns c =
     let at-good-set = c .before .before in
     let at-good-bounds = at-good-set .before in

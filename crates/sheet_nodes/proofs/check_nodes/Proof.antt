@@ -1,142 +1,158 @@
 -- `sheet_nodes::check_nodes` meets its contract. Assumes nothing.
-use Rattle.signed.proofs.Fit.{back-of}
-use Rattle.sheet_nodes.proofs.Arrays.{begin, sizes, ready, stop, more, finish}
-use Rattle.sheet_nodes.specs.Arrays.{Filled}
-use Rattle.records.specs.Nodes.{goodNode}
-use Rattle.tables.proofs.Scanned.{fail-at, fail-none}
-use Rattle.tables.proofs.Bools.{not-flip}
-use borrow.Author.Tests.{not-false}
-use native.Mathlib.Omega.{arith}
 use mathlib.Core.Path.{sym, _∙_}
-use lib.ListN.{length}
-use lib.Seq.{length-take-le}
 use Prim.Native.Nat.{_-_, _≤_}
+use native.Mathlib.Numerals.{add-one}
+use native.Mathlib.Omega.{arith}
+use borrow.Author.Tests.{not-false}
+use Rattle.tables.proofs.Bools.{not-flip}
+use Rattle.tables.proofs.Scanned.{fail-at, fail-none}
+use Rattle.records.specs.Nodes.{goodNode}
+use Rattle.sheet_nodes.specs.Arrays.{Filled}
+use Rattle.sheet_nodes.proofs.Turns.{begin, finish}
 use borrow.Author.Needs.{needs}
 use Rattle.sheet_nodes.proofs.check_nodes.Statement.{statement}
 use Rattle.sheet_nodes.proofs.check_nodes.Tie as tie
 
 abbrev Inv-loop : tie.InvT-loop
-Inv-loop s h lows₀ highs₀ types₀ tops₀ named₀ size n₀ lows highs types tops named n = (n ≤ size) × Filled s h (length lows₀) (length types₀) n lows highs types tops named
+Inv-loop s h lows₀ highs₀ sorts₀ tops₀ named₀ size n₀ lows highs sorts tops named n = (n ≤ size) × Filled s h n lows highs sorts tops named
 
 abbrev μ-loop : tie.MeasureT-loop
-μ-loop s h lows₀ highs₀ types₀ tops₀ named₀ size n₀ lows highs types tops named n = size - n
+μ-loop s h lows₀ highs₀ sorts₀ tops₀ named₀ size n₀ lows highs sorts tops named n = size - n
 
 loop-holds : tie.Need-loop-holds Inv-loop μ-loop
-loop-holds c = (omega arith, begin _ _ (c .before .before .before .pre .2))
+loop-holds c =
+    let at-start = c .before .before .before in
+    (omega arith, begin _ _ (at-start .pre .1))
 
-add-at : tie.Need-add-at Inv-loop μ-loop
-add-at c = search needs
-
-record-at-requires : tie.Need-record-at-requires Inv-loop μ-loop
-record-at-requires c κs = search needs
-
-slice-reshare-prefix-node-entry : tie.Need-slice-reshare-prefix-node-entry Inv-loop μ-loop
-slice-reshare-prefix-node-entry c = search needs
-
-slice-aggregate-node-entry : tie.Need-slice-aggregate-node-entry Inv-loop μ-loop
-slice-aggregate-node-entry c = sym (length-take-le _ _ (search needs))
-
-slice-reshare-prefix-node-entry-2 : tie.Need-slice-reshare-prefix-node-entry-2 Inv-loop μ-loop
-slice-reshare-prefix-node-entry-2 c = search needs
-
-slice-aggregate-node-entry-2 : tie.Need-slice-aggregate-node-entry-2 Inv-loop μ-loop
-slice-aggregate-node-entry-2 c = sym (length-take-le _ _ (search needs))
-
-slice-reshare-prefix-node-entry-3 : tie.Need-slice-reshare-prefix-node-entry-3 Inv-loop μ-loop
-slice-reshare-prefix-node-entry-3 c = search needs
-
-slice-aggregate-node-entry-3 : tie.Need-slice-aggregate-node-entry-3 Inv-loop μ-loop
-slice-aggregate-node-entry-3 c = sym (length-take-le _ _ (search needs))
-
-slice-reshare-prefix-node-entry-4 : tie.Need-slice-reshare-prefix-node-entry-4 Inv-loop μ-loop
-slice-reshare-prefix-node-entry-4 c = search needs
-
-slice-aggregate-node-entry-4 : tie.Need-slice-aggregate-node-entry-4 Inv-loop μ-loop
-slice-aggregate-node-entry-4 c = sym (length-take-le _ _ (search needs))
-
-slice-reshare-prefix-node-entry-5 : tie.Need-slice-reshare-prefix-node-entry-5 Inv-loop μ-loop
-slice-reshare-prefix-node-entry-5 c = search needs
-
-slice-aggregate-node-entry-5 : tie.Need-slice-aggregate-node-entry-5 Inv-loop μ-loop
-slice-aggregate-node-entry-5 c = sym (length-take-le _ _ (search needs))
-
-node-entry-requires : tie.Need-node-entry-requires Inv-loop μ-loop
-node-entry-requires c κs = ready _ _ _ (c .before .before .before .before .before .before .before .before .loop .inv .1) (c .before .before .before .before .before .before .before .before .before .before .before .before .pre .0) (c .before .before .before .before .before .before .before .loop-test .taken) (c .before .before .before .before .before .record-at .ensures) (c .before .before .before .before .before .before .before .before .before .before .before .before .pre .1)
+take-node-requires : tie.Need-take-node-requires Inv-loop μ-loop
+take-node-requires c κs =
+    let at-loop-test = c .before .before .before .before .before in
+    let at-loop = at-loop-test .before in
+    let at-start = at-loop .before .before .before .before in
+    record { begun = at-start .pre .0; exists = at-loop-test .loop-test .taken; filled = at-loop .loop .inv .1 }
 
 same-length : tie.Need-same-length Inv-loop μ-loop
-same-length c = c .before .before .before .before .before .before .before .before .before .before .before .loop .inv .1 .low-long ∙ sym (sizes (c .before .before .before .before .before .before .before .before .before .before .before .before .before .before .before .pre .2) .low)
+same-length c =
+    let at-take-node = c .before .before .before .before .before .before .before .before .before in
+    let at-loop = at-take-node .before .before .before .before .before .before .before in
+    let at-start = at-loop .before .before .before .before in
+    omega (
+      arith,
+      at-take-node .take-node .kept .1 .1 .1 .0,
+      at-loop .loop .inv .1 .low-long,
+      (begin (at-start .args .s .now) (at-start .args .h) (at-start .pre .1)) .low-long,
+    )
 
 same-length-2 : tie.Need-same-length-2 Inv-loop μ-loop
-same-length-2 c = c .before .before .before .before .before .before .before .before .before .before .before .loop .inv .1 .high-long ∙ sym (sizes (c .before .before .before .before .before .before .before .before .before .before .before .before .before .before .before .pre .2) .high)
+same-length-2 c =
+    let at-take-node = c .before .before .before .before .before .before .before .before .before in
+    let at-loop = at-take-node .before .before .before .before .before .before .before in
+    let at-start = at-loop .before .before .before .before in
+    omega (
+      arith,
+      at-take-node .take-node .kept .1 .1 .1 .1 .0,
+      at-loop .loop .inv .1 .high-long,
+      (begin (at-start .args .s .now) (at-start .args .h) (at-start .pre .1)) .high-long,
+    )
 
 same-length-3 : tie.Need-same-length-3 Inv-loop μ-loop
-same-length-3 c = c .before .before .before .before .before .before .before .before .before .before .before .loop .inv .1 .type-long ∙ sym (sizes (c .before .before .before .before .before .before .before .before .before .before .before .before .before .before .before .pre .2) .type)
+same-length-3 c =
+    let at-take-node = c .before .before .before .before .before .before .before .before .before in
+    let at-loop = at-take-node .before .before .before .before .before .before .before in
+    let at-start = at-loop .before .before .before .before in
+    omega (
+      arith,
+      at-take-node .take-node .kept .1 .1 .1 .1 .1 .0,
+      at-loop .loop .inv .1 .sort-long,
+      (begin (at-start .args .s .now) (at-start .args .h) (at-start .pre .1)) .sort-long,
+    )
 
 same-length-4 : tie.Need-same-length-4 Inv-loop μ-loop
-same-length-4 c = c .before .before .before .before .before .before .before .before .before .before .before .loop .inv .1 .top-long ∙ sym (sizes (c .before .before .before .before .before .before .before .before .before .before .before .before .before .before .before .pre .2) .top)
+same-length-4 c =
+    let at-take-node = c .before .before .before .before .before .before .before .before .before in
+    let at-loop = at-take-node .before .before .before .before .before .before .before in
+    let at-start = at-loop .before .before .before .before in
+    omega (
+      arith,
+      at-take-node .take-node .kept .1 .1 .1 .1 .1 .1 .0,
+      at-loop .loop .inv .1 .top-long,
+      (begin (at-start .args .s .now) (at-start .args .h) (at-start .pre .1)) .top-long,
+    )
 
 same-length-5 : tie.Need-same-length-5 Inv-loop μ-loop
-same-length-5 c = c .before .before .before .before .before .before .before .before .before .before .before .loop .inv .1 .name-long ∙ sym (sizes (c .before .before .before .before .before .before .before .before .before .before .before .before .before .before .before .pre .2) .name)
+same-length-5 c =
+    let at-take-node = c .before .before .before .before .before .before .before .before .before in
+    let at-loop = at-take-node .before .before .before .before .before .before .before in
+    let at-start = at-loop .before .before .before .before in
+    omega (
+      arith,
+      at-take-node .take-node .kept .1 .1 .1 .1 .1 .1 .1 .0,
+      at-loop .loop .inv .1 .name-long,
+      (begin (at-start .args .s .now) (at-start .args .h) (at-start .pre .1)) .name-long,
+    )
 
 returns : tie.Need-returns Inv-loop μ-loop
-returns c = (fail-at (goodNode (c .before .before .before .before .before .before .before .before .before .before .before .before .before .before .before .args .s .now) (c .before .before .before .before .before .before .before .before .before .before .before .before .before .before .before .args .h)) _ _ (c .before .before .before .before .before .before .before .before .before .before .loop-test .taken) (c .before .before .before .before .before .before .before .before .before .before .before .loop .inv .1 .good) (stop _ _ _ (c .before .before .before .before .before .before .before .before .before .before .before .loop .inv .1) (c .before .before .before .before .before .before .before .before .before .before .before .before .before .before .before .pre .0) (c .before .before .before .before .before .before .before .before .before .before .loop-test .taken) (c .before .before .before .before .before .before .before .before .record-at .ensures) (c .before .before .node-entry .ensures) (not-flip _ (c .if1 .taken))), λ l. absurd (omega arith))
-
-mul-low : tie.Need-mul-low Inv-loop μ-loop
-mul-low c = omega (arith, c .before .before .before .before .before .before .before .before .before .before .before .before .before .loop-test .taken, c .before .before .before .before .before .before .before .before .before .before .before .before .before .before .before .before .before .before .pre .0 .limits .nodes)
-
-slice-set-from-low : tie.Need-slice-set-from-low Inv-loop μ-loop
-slice-set-from-low c = omega (arith, c .before .before .before .before .before .before .before .before .before .before .before .before .before .loop-test .taken, c .before .before .before .before .before .before .before .before .before .before .before .before .before .before .before .before .before .before .pre .0 .limits .nodes, c .before .before .before .before .before .before .before .before .before .before .before .before .before .before .loop .inv .1 .low-long)
-
-mul-high : tie.Need-mul-high Inv-loop μ-loop
-mul-high c = omega (arith, c .before .before .before .before .before .before .before .before .before .before .before .before .before .loop-test .taken, c .before .before .before .before .before .before .before .before .before .before .before .before .before .before .before .before .before .before .pre .0 .limits .nodes)
-
-slice-set-from-high : tie.Need-slice-set-from-high Inv-loop μ-loop
-slice-set-from-high c = omega (arith, c .before .before .before .before .before .before .before .before .before .before .before .before .before .loop-test .taken, c .before .before .before .before .before .before .before .before .before .before .before .before .before .before .before .before .before .before .pre .0 .limits .nodes, c .before .before .before .before .before .before .before .before .before .before .before .before .before .before .loop .inv .1 .high-long)
-
-mul-types : tie.Need-mul-types Inv-loop μ-loop
-mul-types c = omega (arith, c .before .before .before .before .before .before .before .before .before .before .before .before .before .loop-test .taken, c .before .before .before .before .before .before .before .before .before .before .before .before .before .before .before .before .before .before .pre .0 .limits .nodes)
-
-slice-write-types : tie.Need-slice-write-types Inv-loop μ-loop
-slice-write-types c = omega (arith, c .before .before .before .before .before .before .before .before .before .before .before .before .before .loop-test .taken, c .before .before .before .before .before .before .before .before .before .before .before .before .before .before .before .before .before .before .pre .0 .limits .nodes, c .before .before .before .before .before .before .before .before .before .before .before .before .before .before .loop .inv .1 .type-long)
-
-mul-tops : tie.Need-mul-tops Inv-loop μ-loop
-mul-tops c = omega (arith, c .before .before .before .before .before .before .before .before .before .before .before .before .before .loop-test .taken, c .before .before .before .before .before .before .before .before .before .before .before .before .before .before .before .before .before .before .pre .0 .limits .nodes)
-
-slice-write-tops : tie.Need-slice-write-tops Inv-loop μ-loop
-slice-write-tops c = omega (arith, c .before .before .before .before .before .before .before .before .before .before .before .before .before .loop-test .taken, c .before .before .before .before .before .before .before .before .before .before .before .before .before .before .before .before .before .before .pre .0 .limits .nodes, c .before .before .before .before .before .before .before .before .before .before .before .before .before .before .loop .inv .1 .top-long)
-
-kind-of-requires : tie.Need-kind-of-requires Inv-loop μ-loop
-kind-of-requires c κs = search needs
-
-name-children-requires : tie.Need-name-children-requires Inv-loop μ-loop
-name-children-requires c κs = search needs
+returns c =
+    let at-take-node = c .before .before .before .before .before .before .before .before .before in
+    let at-loop-test = at-take-node .before .before .before .before .before .before in
+    let at-loop = at-loop-test .before in
+    let at-start = at-loop .before .before .before .before in (
+      fail-at (goodNode (at-start .args .s .now) (at-start .args .h)) _ _ (at-loop-test .loop-test .taken) (at-loop .loop .inv .1 .good)
+          (sym (at-take-node .take-node .ensures .judged) ∙ not-flip _ (c .if1 .taken)),
+      λ l. absurd (omega (arith, at-loop-test .loop-test .taken)),
+    )
 
 add-n : tie.Need-add-n Inv-loop μ-loop
-add-n c = omega (arith, c .before .before .before .before .before .before .before .before .before .before .before .before .before .before .before .before .before .before .loop-test .taken, c .before .before .before .before .before .before .before .before .before .before .before .before .before .before .before .before .before .before .before .before .before .before .before .pre .0 .limits .nodes)
+add-n c =
+    let at-take-node-arg3 = c .before .before .before .before .before .before .before .before .before .before .before .before in
+    let at-loop-test = at-take-node-arg3 .before .before .before in
+    let at-start = at-loop-test .before .before .before .before .before in
+    omega (arith, at-loop-test .loop-test .taken, at-start .pre .0 .sized .limits .nodes)
 
 loop-less : tie.Need-loop-less Inv-loop μ-loop
-loop-less c = omega (arith, c .before .before .before .before .before .before .before .before .before .before .before .before .before .before .before .before .before .before .loop-test .taken)
+loop-less c =
+    let at-take-node-arg3 = c .before .before .before .before .before .before .before .before .before .before .before .before in
+    let at-loop-test = at-take-node-arg3 .before .before .before in
+    omega (arith, at-loop-test .loop-test .taken)
 
 loop-again : tie.Need-loop-again Inv-loop μ-loop
-loop-again c = (omega (arith, c .before .before .before .before .before .before .before .before .before .before .before .before .before .before .before .before .before .before .loop-test .taken), more _ _ _ (c .before .before .before .before .before .before .before .before .before .before .before .before .before .before .before .before .before .before .before .loop .inv .1) (c .before .before .before .before .before .before .before .before .before .before .before .before .before .before .before .before .before .before .before .before .before .before .before .pre .0) (c .before .before .before .before .before .before .before .before .before .before .before .before .before .before .before .before .before .before .loop-test .taken) (c .before .before .before .before .before .before .before .before .before .before .before .before .before .before .before .before .record-at .ensures) (c .before .before .before .before .before .before .before .before .before .before .node-entry .ensures) (not-false _ (c .before .before .before .before .before .before .before .before .if1 .left)) (back-of _ (c .before .before .before .before .before .before .struct-told .given .0 .1)) (back-of _ (c .before .before .before .before .before .struct-told2 .given .1 .0 .1)) (c .before .before .before .before .kind-of .ensures) (c .before .before .name-children .ensures))
+loop-again c =
+    let at-take-node = c .before .before .before .before .before .before .before .before .before in
+    let at-loop-test = at-take-node .before .before .before .before .before .before in
+    (omega (arith, at-loop-test .loop-test .taken), rw add-one (at-take-node .take-node .ensures .filled (not-false _ (c .if1 .left))))
 
 same-length-6 : tie.Need-same-length-6 Inv-loop μ-loop
-same-length-6 c = c .before .loop .inv .1 .low-long ∙ sym (sizes (c .before .before .before .before .before .pre .2) .low)
+same-length-6 c =
+    let at-start = c .before .before .before .before .before in
+    omega (arith, c .before .loop .inv .1 .low-long, (begin (at-start .args .s .now) (at-start .args .h) (at-start .pre .1)) .low-long)
 
 same-length-7 : tie.Need-same-length-7 Inv-loop μ-loop
-same-length-7 c = c .before .loop .inv .1 .high-long ∙ sym (sizes (c .before .before .before .before .before .pre .2) .high)
+same-length-7 c =
+    let at-start = c .before .before .before .before .before in
+    omega (arith, c .before .loop .inv .1 .high-long, (begin (at-start .args .s .now) (at-start .args .h) (at-start .pre .1)) .high-long)
 
 same-length-8 : tie.Need-same-length-8 Inv-loop μ-loop
-same-length-8 c = c .before .loop .inv .1 .type-long ∙ sym (sizes (c .before .before .before .before .before .pre .2) .type)
+same-length-8 c =
+    let at-start = c .before .before .before .before .before in
+    omega (arith, c .before .loop .inv .1 .sort-long, (begin (at-start .args .s .now) (at-start .args .h) (at-start .pre .1)) .sort-long)
 
 same-length-9 : tie.Need-same-length-9 Inv-loop μ-loop
-same-length-9 c = c .before .loop .inv .1 .top-long ∙ sym (sizes (c .before .before .before .before .before .pre .2) .top)
+same-length-9 c =
+    let at-start = c .before .before .before .before .before in
+    omega (arith, c .before .loop .inv .1 .top-long, (begin (at-start .args .s .now) (at-start .args .h) (at-start .pre .1)) .top-long)
 
 same-length-10 : tie.Need-same-length-10 Inv-loop μ-loop
-same-length-10 c = c .before .loop .inv .1 .name-long ∙ sym (sizes (c .before .before .before .before .before .pre .2) .name)
+same-length-10 c =
+    let at-start = c .before .before .before .before .before in
+    omega (arith, c .before .loop .inv .1 .name-long, (begin (at-start .args .s .now) (at-start .args .h) (at-start .pre .1)) .name-long)
 
 returns-2 : tie.Need-returns-2 Inv-loop μ-loop
-returns-2 c = (fail-none (goodNode (c .before .before .before .before .before .args .s .now) (c .before .before .before .before .before .args .h)) _ _ (c .before .loop .inv .0) (c .loop-test .left) (c .before .loop .inv .1 .good), λ l. finish _ _ _ (c .before .loop .inv .1) (c .before .loop .inv .0) (c .loop-test .left))
+returns-2 c =
+    let at-start = c .before .before .before .before .before in (
+      fail-none (goodNode (at-start .args .s .now) (at-start .args .h)) _ _ (c .before .loop .inv .0) (c .loop-test .left)
+          (c .before .loop .inv .1 .good),
+      λ l. finish _ _ _ (c .before .loop .inv .1) (c .before .loop .inv .0) (c .loop-test .left),
+    )
 
 pub check-nodes-spec : {M : Type 1} → statement M
 check-nodes-spec =
@@ -145,35 +161,13 @@ check-nodes-spec =
     Inv-loop
     μ-loop
     loop-holds
-    add-at
-    record-at-requires
-    slice-reshare-prefix-node-entry
-    slice-aggregate-node-entry
-    slice-reshare-prefix-node-entry-2
-    slice-aggregate-node-entry-2
-    slice-reshare-prefix-node-entry-3
-    slice-aggregate-node-entry-3
-    slice-reshare-prefix-node-entry-4
-    slice-aggregate-node-entry-4
-    slice-reshare-prefix-node-entry-5
-    slice-aggregate-node-entry-5
-    node-entry-requires
+    take-node-requires
     same-length
     same-length-2
     same-length-3
     same-length-4
     same-length-5
     returns
-    mul-low
-    slice-set-from-low
-    mul-high
-    slice-set-from-high
-    mul-types
-    slice-write-types
-    mul-tops
-    slice-write-tops
-    kind-of-requires
-    name-children-requires
     add-n
     loop-less
     loop-again

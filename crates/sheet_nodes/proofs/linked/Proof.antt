@@ -1,41 +1,24 @@
 -- `sheet_nodes::linked` meets its contract. Assumes nothing.
+use mathlib.Core.Bool.{false}
+use lib.ListN.{getD}
+use Rattle.sheet_nodes.proofs.Kids.{linked-is}
 use borrow.Author.Needs.{needs}
 use Rattle.sheet_nodes.proofs.linked.Statement.{statement}
 use Rattle.sheet_nodes.proofs.linked.Tie as tie
 
-left-requires : tie.Need-left-requires
-left-requires c κs = search needs
-
-right-requires : tie.Need-right-requires
-right-requires c κs = search needs
-
-has-left-requires : tie.Need-has-left-requires
-has-left-requires c κs = search needs
-
 flag-requires : tie.Need-flag-requires
 flag-requires c κs = search needs
-
-has-right-requires : tie.Need-has-right-requires
-has-right-requires c κs = search needs
 
 flag-requires-2 : tie.Need-flag-requires-2
 flag-requires-2 c κs = search needs
 
-good-children-requires : tie.Need-good-children-requires
-good-children-requires c κs = search needs
-
 returns : tie.Need-returns
-returns c = rw (c .good-children .ensures, c .before .flag2 .ensures, c .before .before .has-right .ensures, c .before .before .before .flag .ensures, c .before .before .before .before .has-left .ensures, c .before .before .before .before .before .right .ensures, c .before .before .before .before .before .before .left .ensures)
+returns c =
+    let at-flag2 = c .before .before in
+    let at-flag = at-flag2 .before in
+    let at-start = at-flag .before .before in
+    rw (at-flag2 .flag2 .ensures, at-flag .flag .ensures)
+    (linked-is (at-start .args .n) (λ a. getD (at-start .args .named .now) a false) (at-start .args .c))
 
 pub linked-spec : {M : Type 1} → statement M
-linked-spec =
-    tie.close
-    (tie.spec
-    left-requires
-    right-requires
-    has-left-requires
-    flag-requires
-    has-right-requires
-    flag-requires-2
-    good-children-requires
-    returns)
+linked-spec = tie.close (tie.spec flag-requires flag-requires-2 returns)

@@ -9,10 +9,10 @@ use Rattle.sheet_roots.proofs.operations.check_operations.Statement.{st
 use Rattle.sheet_roots.proofs.operations.check_operations.Tie as tie
 
 abbrev Inv-loop : tie.InvT-loop
-Inv-loop s h types named₀ n sum₀ k₀ named sum k = Turn s h (length named₀) k sum named
+Inv-loop s h sorts named₀ n sum₀ k₀ named sum k = Turn s h (length named₀) k sum named
 
 abbrev μ-loop : tie.MeasureT-loop
-μ-loop s h types named₀ n sum₀ k₀ named sum k = n - k
+μ-loop s h sorts named₀ n sum₀ k₀ named sum k = n - k
 
 loop-holds : tie.Need-loop-holds Inv-loop μ-loop
 loop-holds c = begin _ _ _ (c .before .before .pre .3)
@@ -51,7 +51,7 @@ add-sum c =
     let at-start = at-loop .before .before .before in
     omega (
       arith,
-      fits _ _ _ _ (at-start .args .types .now) (at-start .pre .2) (at-loop .loop .inv) (at-loop-test .loop-test .taken)
+      fits _ _ _ _ (at-start .args .sorts .now) (at-start .pre .2) (at-loop .loop .inv) (at-loop-test .loop-test .taken)
           (at-first-operation .first-operation .ensures) (at-record-at .record-at .ensures) (at-start .pre .1),
       at-start .pre .0 .limits .effects,
     )
@@ -78,7 +78,7 @@ loop-again c =
     let at-loop-test = at-first-operation .before in
     let at-loop = at-loop-test .before in
     let at-start = at-loop .before .before .before in
-    again _ _ _ _ (at-start .args .types .now) (at-start .pre .2) (at-loop .loop .inv) (at-loop-test .loop-test .taken)
+    again _ _ _ _ (at-start .args .sorts .now) (at-start .pre .2) (at-loop .loop .inv) (at-loop-test .loop-test .taken)
     (at-first-operation .first-operation .ensures) (at-record-at .record-at .ensures) (at-root .root .ensures) (at-good-mask .good-mask .ensures)
     (at-unused .unused .ensures) (at-if1 .if1 .taken) (at-mark .mark .ensures)
 
@@ -97,7 +97,7 @@ returns c =
     let at-loop-test = at-first-operation .before in
     let at-loop = at-loop-test .before in
     let at-start = at-loop .before .before .before in (
-      stop _ _ _ _ (at-start .args .types .now) (at-start .pre .2) (at-loop .loop .inv) (at-loop-test .loop-test .taken)
+      stop _ _ _ _ (at-start .args .sorts .now) (at-start .pre .2) (at-loop .loop .inv) (at-loop-test .loop-test .taken)
           (at-first-operation .first-operation .ensures) (at-record-at .record-at .ensures) (at-root .root .ensures)
           (at-good-mask .good-mask .ensures) (c .before .unused .ensures) (c .if1 .left),
       λ l. absurd (omega (arith, at-loop-test .loop-test .taken)),

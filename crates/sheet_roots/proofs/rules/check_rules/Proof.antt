@@ -9,10 +9,10 @@ use Rattle.sheet_roots.proofs.rules.check_rules.Statement.{statement}
 use Rattle.sheet_roots.proofs.rules.check_rules.Tie as tie
 
 abbrev Inv-loop : tie.InvT-loop
-Inv-loop s h types tops named₀ n k₀ named k = Turn s h (length named₀) k named
+Inv-loop s h sorts tops named₀ n k₀ named k = Turn s h (length named₀) k named
 
 abbrev μ-loop : tie.MeasureT-loop
-μ-loop s h types tops named₀ n k₀ named k = n - k
+μ-loop s h sorts tops named₀ n k₀ named k = n - k
 
 loop-holds : tie.Need-loop-holds Inv-loop μ-loop
 loop-holds c =
@@ -35,8 +35,8 @@ record-at-requires c κs =
 root-requires : tie.Need-root-requires Inv-loop μ-loop
 root-requires c κs = search needs
 
-entry-requires : tie.Need-entry-requires Inv-loop μ-loop
-entry-requires c κs = search needs
+byte-entry-requires : tie.Need-byte-entry-requires Inv-loop μ-loop
+byte-entry-requires c κs = search needs
 
 cites-lower-requires : tie.Need-cites-lower-requires Inv-loop μ-loop
 cites-lower-requires c κs = search needs
@@ -66,15 +66,15 @@ loop-again c =
     let at-unused = at-if1 .before in
     let at-risen = at-unused .before in
     let at-cites-lower = at-risen .before .before in
-    let at-entry = at-cites-lower .before in
-    let at-root = at-entry .before in
+    let at-byte-entry = at-cites-lower .before in
+    let at-root = at-byte-entry .before in
     let at-record-at = at-root .before .before in
     let at-first-rule = at-record-at .before in
     let at-loop-test = at-first-rule .before in
     let at-loop = at-loop-test .before in
     let at-start = at-loop .before .before .before .before in
     again _ _ _ (at-start .pre .1) (at-loop .loop .inv) (at-loop-test .loop-test .taken) (at-first-rule .first-rule .ensures)
-    (at-record-at .record-at .ensures) (at-root .root .ensures) (at-entry .entry .ensures) (at-cites-lower .cites-lower .ensures)
+    (at-record-at .record-at .ensures) (at-root .root .ensures) (at-byte-entry .byte-entry .ensures) (at-cites-lower .cites-lower .ensures)
     (at-risen .risen .ensures) (at-unused .unused .ensures) (at-if1 .if1 .taken) (at-mark .mark .ensures)
 
 same-length : tie.Need-same-length Inv-loop μ-loop
@@ -87,15 +87,15 @@ returns : tie.Need-returns Inv-loop μ-loop
 returns c =
     let at-risen = c .before .before in
     let at-cites-lower = at-risen .before .before in
-    let at-entry = at-cites-lower .before in
-    let at-root = at-entry .before in
+    let at-byte-entry = at-cites-lower .before in
+    let at-root = at-byte-entry .before in
     let at-record-at = at-root .before .before in
     let at-first-rule = at-record-at .before in
     let at-loop-test = at-first-rule .before in
     let at-loop = at-loop-test .before in
     let at-start = at-loop .before .before .before .before in (
       stop _ _ _ (at-start .pre .1) (at-loop .loop .inv) (at-loop-test .loop-test .taken) (at-first-rule .first-rule .ensures)
-          (at-record-at .record-at .ensures) (at-root .root .ensures) (at-entry .entry .ensures) (at-cites-lower .cites-lower .ensures)
+          (at-record-at .record-at .ensures) (at-root .root .ensures) (at-byte-entry .byte-entry .ensures) (at-cites-lower .cites-lower .ensures)
           (at-risen .risen .ensures) (c .before .unused .ensures) (c .if1 .left),
       λ l. absurd (omega (arith, at-loop-test .loop-test .taken)),
     )
@@ -119,7 +119,7 @@ check-rules-spec =
     add-record-at
     record-at-requires
     root-requires
-    entry-requires
+    byte-entry-requires
     cites-lower-requires
     risen-requires
     unused-requires

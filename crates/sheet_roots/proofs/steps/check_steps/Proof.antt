@@ -9,10 +9,10 @@ use Rattle.sheet_roots.proofs.steps.check_steps.Statement.{statement}
 use Rattle.sheet_roots.proofs.steps.check_steps.Tie as tie
 
 abbrev Inv-loop : tie.InvT-loop
-Inv-loop s h types named₀ n sum₀ k₀ named sum k = Turn s h (length named₀) k sum named
+Inv-loop s h sorts named₀ n sum₀ k₀ named sum k = Turn s h (length named₀) k sum named
 
 abbrev μ-loop : tie.MeasureT-loop
-μ-loop s h types named₀ n sum₀ k₀ named sum k = n - k
+μ-loop s h sorts named₀ n sum₀ k₀ named sum k = n - k
 
 loop-holds : tie.Need-loop-holds Inv-loop μ-loop
 loop-holds c = begin _ _ _ (c .before .before .pre .4)
@@ -53,7 +53,7 @@ add-sum c =
     let at-start = at-loop .before .before .before in
     omega (
       arith,
-      fits _ _ _ _ (at-start .args .types .now) (at-start .pre .2) (at-loop .loop .inv) (at-loop-test .loop-test .taken)
+      fits _ _ _ _ (at-start .args .sorts .now) (at-start .pre .2) (at-loop .loop .inv) (at-loop-test .loop-test .taken)
           (at-first-step .first-step .ensures) (at-record-at .record-at .ensures) (at-start .pre .1),
       at-start .pre .0 .limits .routes,
     )
@@ -79,7 +79,7 @@ loop-again c =
     let at-loop-test = at-first-step .before in
     let at-loop = at-loop-test .before in
     let at-start = at-loop .before .before .before in
-    again _ _ _ _ (at-start .args .types .now) (at-start .pre .2) (at-loop .loop .inv) (at-loop-test .loop-test .taken)
+    again _ _ _ _ (at-start .args .sorts .now) (at-start .pre .2) (at-loop .loop .inv) (at-loop-test .loop-test .taken)
     (at-first-step .first-step .ensures) (at-record-at .record-at .ensures) (at-root .root .ensures) (at-good-kind .good-kind .ensures)
     (at-unused .unused .ensures) (at-if1 .if1 .taken) (at-mark .mark .ensures)
 
@@ -98,7 +98,7 @@ returns c =
     let at-loop-test = at-first-step .before in
     let at-loop = at-loop-test .before in
     let at-start = at-loop .before .before .before in
-    stop _ _ _ _ (at-start .args .types .now) (at-start .pre .2) (at-loop .loop .inv) (at-loop-test .loop-test .taken)
+    stop _ _ _ _ (at-start .args .sorts .now) (at-start .pre .2) (at-loop .loop .inv) (at-loop-test .loop-test .taken)
     (at-first-step .first-step .ensures) (at-record-at .record-at .ensures) (at-root .root .ensures) (at-good-kind .good-kind .ensures)
     (c .before .unused .ensures) (c .if1 .left)
 

@@ -1,0 +1,172 @@
+-- 01, "Node", "Types" and "Every node has a value range": one row for each kind.
+-- Assumes nothing.
+use Prim.Native.Nat.{ℕ, _+_}
+use lib.IntN.{ℤ, pos, negℤ, _+ℤ_, _-ℤ_, _*ℤ_}
+use mathlib.Core.Bool.{Bool, true, false, not, _&&_, _||_}
+use mathlib.Core.List.{List, [], _∷_}
+use lib.ListN.{getD}
+use lib.Dec.{leb, ltb, eqb}
+use Rattle.signed.specs.Words.{eqZ, within, big, num}
+use Rattle.signed.specs.Compare.{holds}
+use Rattle.words.specs.declared.Words.{Words}
+use Rattle.item.specs.declared.Item.{Item}
+use Rattle.item.specs.Sorts.{isNumber}
+use Rattle.item.specs.Items.{span, none, sum, difference, multiple, compared, both, either, negation}
+use Rattle.node.specs.declared.Given.{Given}
+
+-- what a node's value is worked out from: its words, the facts, the verdicts, and the values of its children, 0 where there is none
+pub record Seen : Type 0 where
+  pub words : Words
+  pub facts : List ℤ
+  pub verdicts : List ℤ
+  pub x : ℤ
+  pub y : ℤ
+
+pub record Row : Type 0 where
+  pub used : ℕ  -- how many words it has; the others are 0
+  pub children : Words → List ℕ  -- the nodes that it names
+  pub cites : Words → List ℕ  -- the rules that it cites
+  pub takes : Given → Bool  -- its words are in their ranges, what it names exists, its children are of the types that it takes
+  pub gives : Given → Item  -- its type and value range
+  pub decides : ℤ → Bool  -- the first child's value is the node's, whatever the second is
+  pub value : Seen → ℤ  -- a Bool is 1 where it is true, else 0
+
+abbrev pub bit : Bool → ℤ
+bit true = pos 1
+bit false = pos 0
+
+abbrev pub isTrue : ℤ → Bool
+isTrue x = eqZ x (pos 1)
+
+-- ---- makers of rows
+
+-- a node without children
+abbrev pub leaf : ℕ → (Words → List ℕ) → (Given → Bool) → (Given → Item) → (Seen → ℤ) → Row
+leaf used cites takes gives value =
+    record {
+      used = used;
+      children = λ w. [];
+      cites = cites;
+      takes = takes;
+      gives = gives;
+      decides = λ x. false;
+      value = value;
+    }
+
+-- a literal: a value in l..h, of type t + the number in word 2, which is at most m
+abbrev pub literal : ℕ → ℤ → ℤ → ℕ → ℕ → Row
+literal used l h t m =
+    leaf used (λ w. []) (λ g. leb (num (g .words .w2)) m && within l (g .words .w1) h) (λ g. span (t + num (g .words .w2)) (g .words .w1) (g .words .w1))
+    (λ s. s .words .w1)
+
+-- a node whose child is in word 1
+abbrev pub single : ℕ → (Given → Bool) → (Given → Item) → (Seen → ℤ) → Row
+single used takes gives value =
+    record {
+      used = used;
+      children = λ w. num (w .w1) ∷ [];
+      cites = λ w. [];
+      takes = takes;
+      gives = gives;
+      decides = λ x. false;
+      value = value;
+    }
+
+-- a node whose children are in words 1 and 2
+abbrev pub pair : (Item → Item → Bool) → (Item → Item → Item) → (ℤ → Bool) → (ℤ → ℤ → ℤ) → Row
+pair takes gives decides value =
+    record {
+      used = 3;
+      children = λ w. num (w .w1) ∷ num (w .w2) ∷ [];
+      cites = λ w. [];
+      takes = λ g. takes (g .x) (g .y);
+      gives = λ g. gives (g .x) (g .y);
+      decides = decides;
+      value = λ s. value (s .x) (s .y);
+    }
+
+-- ---- the types that are taken
+
+-- two numbers of one type
+abbrev pub numbers : Item → Item → Bool
+numbers x y = eqb (x .sort) (y .sort) && isNumber (x .sort)
+
+abbrev pub bools : Item → Item → Bool
+bools x y = eqb (x .sort) 0 && eqb (y .sort) 0
+
+-- the six operators: = and ≠ take two of one type, < ≤ > ≥ two numbers of one type
+abbrev pub comparable : ℕ → Item → Item → Bool
+comparable op x y = leb op 5 && eqb (x .sort) (y .sort) && (ltb op 2 || isNumber (x .sort))
+
+-- ---- the rows
+
+-- 0 Int literal v (−M..M)
+abbrev pub intLiteral : Row
+intLiteral = literal 2 (negℤ (pos big)) (pos big) 1 0
+
+-- 1 Bool literal (0/1)
+abbrev pub boolLiteral : Row
+boolLiteral = literal 2 (pos 0) (pos 1) 0 0
+
+-- 2 Enum literal v (0..255), set (0..127)
+abbrev pub enumLiteral : Row
+enumLiteral = literal 3 (pos 0) (pos 255) 2 127
+
+-- 3 fact: its type is the fact's, its range min..max
+abbrev pub factNamed : Row
+factNamed =
+    leaf 2 (λ w. []) (λ g. ltb (num (g .words .w1)) (g .facts)) (λ g. g .fact) (λ s. getD (s .facts) (num (s .words .w1)) (pos 0))
+
+-- 4 sum of two nodes
+abbrev pub sums : Row
+sums = pair numbers sum (λ x. false) (λ x y. x +ℤ y)
+
+-- 5 difference
+abbrev pub differences : Row
+differences = pair numbers difference (λ x. false) (λ x y. x -ℤ y)
+
+-- 6 product: a node, a literal 0..M; it takes Int
+abbrev pub product : Row
+product =
+    single 3 (λ g. within (pos 0) (g .words .w2) (pos big) && eqb (g .x .sort) 1) (λ g. multiple (g .words .w2) (g .x)) (λ s. s .x *ℤ s .words .w2)
+
+-- 7 comparison: operator, two nodes
+abbrev pub comparison : Row
+comparison =
+    record {
+      used = 4;
+      children = λ w. num (w .w2) ∷ num (w .w3) ∷ [];
+      cites = λ w. [];
+      takes = λ g. comparable (num (g .words .w1)) (g .x) (g .y);
+      gives = λ g. compared (num (g .words .w1)) (g .x) (g .y);
+      decides = λ x. false;
+      value = λ s. bit (holds (num (s .words .w1)) (s .x) (s .y));
+    }
+
+-- 8 verdict present: a rule; its range is 0..1
+abbrev pub present : Row
+present =
+    leaf 2 (λ w. num (w .w1) ∷ []) (λ g. ltb (num (g .words .w1)) (g .rules)) (λ g. span 0 (pos 0) (pos 1)) (λ s. getD (s .verdicts) (num (s .words .w1)) (pos 0))
+
+-- 9 and, 10 or: two nodes; "both connectives have their ordinary meaning"
+abbrev pub conjunction : Row
+conjunction = pair bools both (λ x. eqZ x (pos 0)) (λ x y. bit (isTrue x && isTrue y))
+
+abbrev pub disjunction : Row
+disjunction = pair bools either isTrue (λ x y. bit (isTrue x || isTrue y))
+
+-- 11 not: one node
+abbrev pub negated : Row
+negated = single 2 (λ g. eqb (g .x .sort) 0) (λ g. negation (g .x)) (λ s. bit (not (isTrue (s .x))))
+
+-- "a kind not listed makes its record bad"
+abbrev pub unknown : Row
+unknown = leaf 0 (λ w. []) (λ g. false) (λ g. none) (λ s. pos 0)
+
+-- the kinds 0 to 11, in order
+abbrev pub rows : List Row
+rows =
+    intLiteral ∷ boolLiteral ∷ enumLiteral ∷ factNamed ∷ sums ∷ differences ∷ product ∷ comparison ∷ present ∷ conjunction ∷ disjunction ∷ negated ∷ []
+
+unfoldable pub rowOf : ℕ → Row
+rowOf k = getD rows k unknown

@@ -1,0 +1,49 @@
+-- `predicate::range_at` meets its contract. Assumes nothing.
+use Rattle.signed.proofs.Fit.{back-of}
+use borrow.Author.Needs.{needs}
+use Rattle.predicate.proofs.range_at.Statement.{statement}
+use Rattle.predicate.proofs.range_at.Tie as tie
+
+words-at-requires : tie.Need-words-at-requires
+words-at-requires c κs = search needs
+
+num-requires : tie.Need-num-requires
+num-requires c κs = search needs
+
+named-fact-requires : tie.Need-named-fact-requires
+named-fact-requires c κs = search needs
+
+num-requires-2 : tie.Need-num-requires-2
+num-requires-2 c κs = search needs
+
+judge-requires : tie.Need-judge-requires
+judge-requires c κs = search needs
+
+returns : tie.Need-returns
+returns c =
+    let at-num2 = c .before .before in
+    let at-struct-told2 = at-num2 .before in
+    let at-named-fact = at-struct-told2 .before in
+    let at-num = at-named-fact .before in
+    let at-struct-told = at-num .before in
+    let at-words-at = at-struct-told .before in
+    rw (
+      c .before .judge .ensures,
+      at-num2 .num2 .ensures,
+      back-of (at-words-at .words-at .result .w0) (at-struct-told2 .struct-told2 .given .0 .1),
+      at-named-fact .named-fact .ensures,
+      at-num .num .ensures,
+      back-of (at-words-at .words-at .result .w1) (at-struct-told .struct-told .given .1 .0 .1),
+      at-words-at .words-at .ensures,
+    )
+
+pub range-at-spec : {M : Type 1} → statement M
+range-at-spec =
+    tie.close
+    (tie.spec
+    words-at-requires
+    num-requires
+    named-fact-requires
+    num-requires-2
+    judge-requires
+    returns)

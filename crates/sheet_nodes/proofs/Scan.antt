@@ -1,0 +1,43 @@
+-- One node by itself, as the scan judges it.
+-- Assumes nothing.
+use mathlib.Core.Path.{_≡_, refl, ap}
+use mathlib.Core.Bool.{Bool, true, false, cond}
+use Prim.Native.Nat.{ℕ}
+use lib.IntN.{ℤ, pos, negsuc}
+use native.Mathlib.Omega.{arith}
+use native.Mathlib.Decide.{ℕ-discrete}
+use mir.Syntax.{w32}
+use mir.Val.{SFits}
+use Rattle.signed.specs.Words.{bounded}
+use Rattle.signed.proofs.Bounds.{read-small}
+use Rattle.item.specs.declared.Item.{Item}
+use Rattle.node.specs.declared.Given.{Given}
+use Rattle.node.specs.declared.Found.{Found}
+use Rattle.node.specs.Rows.{Row, rowOf}
+use Rattle.node.specs.Judged.{fits, bad, keep, judged}
+use Rattle.node.proofs.OneKind.{withFact, fact-unread}
+
+-- a fact is read by a fact node alone
+pub fact-given : (k : ℕ) (g : Given) (f : Item) → (k ≡ 3 → f ≡ g .fact) → judged (rowOf k) (withFact f g) ≡ judged (rowOf k) g
+fact-given k g f h = go (ℕ-discrete k 3)
+  where
+    go : Dec (k ≡ 3) → judged (rowOf k) (withFact f g) ≡ judged (rowOf k) g
+    go (yes e) = ap (λ (x : Item). judged (rowOf k) (withFact x g)) (h e)
+    go (no d) = fact-unread k d g f
+
+-- an integer in −M..M fits 32 bits
+pub int-small : (z : ℤ) → bounded z ≡ true → SFits w32 z
+int-small (pos n) e = record { sfits = omega (arith, read-small (pos n) e) }
+int-small (negsuc n) e = record { sfits = omega (arith, read-small (negsuc n) e) }
+
+pub judged-good : (r : Row) (g : Given) → judged r g .good ≡ fits r g
+unfolding judged keep
+judged-good r g = go (fits r g)
+  where
+    go : (b : Bool) → cond {A = Found} b (record { good = true; item = r .gives g }) bad .good ≡ b
+    go true = refl
+    go false = refl
+
+pub judged-item : (r : Row) (g : Given) → fits r g ≡ true → judged r g .item ≡ r .gives g
+unfolding judged keep
+judged-item r g e = ap (λ (b : Bool). cond {A = Found} b (record { good = true; item = r .gives g }) bad .item) e
