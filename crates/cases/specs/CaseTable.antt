@@ -10,12 +10,12 @@ use Rattle.answer.specs.declared.Answer.{Answer}
 use Rattle.answer.specs.Answers.{statusAnswer, countAnswer, walkAnswer}
 use Rattle.records.specs.Accept.{checked}
 use Rattle.listing.specs.Lists.{Next, First}
-use Rattle.evaluate.specs.Calls.{assembleAnswer, assembleValues}
-use Rattle.flows.specs.Calls.{runCall, runPathLeft, runStatesLeft}
-use Rattle.flows.specs.PublicLists.{publicCall, publicCalls}
+use Rattle.calls.specs.Evaluation.{assembleAnswer, assembleValues}
+use Rattle.calls.specs.Flows.{runAnswer, runPath, runStates}
+use Rattle.calls.specs.Lists.{publicCall, publicCalls}
 use Rattle.text.specs.Lines.{textOf}
 use Rattle.path_lines.specs.Output.{output}
-use Rattle.reports.specs.Reports.{reachableReport, depthReport}
+use Rattle.calls.specs.Reports.{reachableAnswer, depthAnswer}
 use Rattle.cases.specs.Sheets.{whole, sixRoutes, thirdOutcome, sumWith}
 
 -- a case by its number in 01: the row that the definitions give, and the row that 01 gives
@@ -57,8 +57,8 @@ ranFrom x g q =
     let values = pos x ∷ [] in
     let given = pos g ∷ [] in
     let states = pos q ∷ [] in
-    row (walkAnswer (runCall whole values given states (pos 0) rubbish)) (runStatesLeft whole values given states (pos 0) rubbish)
-    (runPathLeft whole values given states (pos 0) rubbish)
+    row (walkAnswer (runAnswer whole values given states (pos 0) rubbish)) (runStates whole values given states (pos 0) rubbish)
+    (runPath whole values given states (pos 0) rubbish)
 
 unfoldable pub judged : List ℤ → List ℤ
 judged s = row (statusAnswer (checked s)) [] []
@@ -84,8 +84,8 @@ cases =
     ∷ record { number = 2; got = ranFrom 1 1 0; want = 0 ∷ 0 ∷ 0 ∷ 2 ∷ 1 ∷ 0 ∷ 2 ∷ [] }
     ∷ record { number = 3; got = ranFrom 1 0 0; want = 0 ∷ 0 ∷ 1 ∷ 1 ∷ 0 ∷ 1 ∷ 0 ∷ [] }
     ∷ record { number = 4; got = ranFrom 1 1 1; want = 0 ∷ 0 ∷ 2 ∷ 2 ∷ 1 ∷ 0 ∷ 4 ∷ [] }
-    ∷ record { number = 5; got = row (countAnswer (reachableReport whole (pos 0))) [] []; want = 0 ∷ 0 ∷ 7 ∷ 0 ∷ [] }
-    ∷ record { number = 6; got = row (countAnswer (depthReport whole (pos 0))) [] []; want = 0 ∷ 0 ∷ 2 ∷ 0 ∷ [] }
+    ∷ record { number = 5; got = row (countAnswer (reachableAnswer whole (pos 0))) [] []; want = 0 ∷ 0 ∷ 7 ∷ 0 ∷ [] }
+    ∷ record { number = 6; got = row (countAnswer (depthAnswer whole (pos 0))) [] []; want = 0 ∷ 0 ∷ 2 ∷ 0 ∷ [] }
     ∷ record { number = 7; got = judged sixRoutes; want = 1 ∷ 0 ∷ 0 ∷ 0 ∷ [] }
     ∷ record { number = 7; got = wrote sixRoutes; want = 114 ∷ 101 ∷ 102 ∷ 117 ∷ 115 ∷ 101 ∷ 100 ∷ 9 ∷ 49 ∷ 9 ∷ 48 ∷ 10 ∷ [] }
     ∷ record { number = 8; got = judged thirdOutcome; want = 3 ∷ 8 ∷ 0 ∷ 0 ∷ [] }

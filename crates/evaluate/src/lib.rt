@@ -3,37 +3,51 @@ ghost use mathlib.Core.Path.{_≡_};
 ghost use lib.ListN.{length};
 ghost use Rattle.facts.specs.Assembled.{assembled};
 ghost use Rattle.predicate.specs.Verdicts.{verdictsOf};
+ghost use Rattle.calls.specs.Evaluation.{assembleClimb, assembleAnswer, assembleValues, verdictsClimb, verdictsAnswer, verdictsVerdicts};
+ghost use Rattle.calls.specs.Evaluation.{attemptedOver, attemptedStatesOver, operateClimb, operateAnswer, operateStates};
 ghost use Rattle.evaluate.specs.Settled.{Known, Asked};
-ghost use Rattle.evaluate.specs.Calls.{assembleAnswer, assembleValues, verdictsAnswer, verdictsBuffer, performedAs, statesAs, operateAnswer, operateStates};
 use answer::Count;
 use answer::Status;
 use attempt::attempt;
 use facts::fill_defaults;
-use ladder::Opened;
+use ladder::Climbed;
 use ladder::exists;
-use ladder::judge_lent_facts;
-use ladder::judge_lent_states;
+use ladder::facts_lent;
+use ladder::judge_call;
 use ladder::open_sheet;
+use ladder::reached;
+use ladder::then_facts;
+use ladder::then_states;
 use layout::Header;
 use layout::Operation;
 use layout::Persona;
 use predicate::fill_verdicts;
 use signed::num;
 
+// The rungs of fact assembly: 1 to 4, 6 and 7.
+fn climb_assemble(s: &[i64], values: &[i64], given: &[i64]) -> Climbed
+    ensures { λ c. ⌜ c ≡ assembleClimb (now (s .entry)) (now (values .entry)) (now (given .entry)) ⌝ }
+{
+    match open_sheet(s) {
+        Climbed::Stopped(r) => Climbed::Stopped(r),
+        Climbed::At(h) => {
+            let t = judge_call(facts_lent(h, values, given), true);
+            reached(then_facts(t, s, h, values, given), h)
+        }
+    }
+}
+
 // Fact assembly.
 pub fn assemble(s: &[i64], values: &mut [i64], given: &[i64]) -> Status
     ensures { λ r. ⌜ r ≡ assembleAnswer (now (s .entry)) (now (values .entry)) (now (given .entry)) ⌝ }
     ensures { λ r. ⌜ now (values .exit) ≡ assembleValues (now (s .entry)) (now (values .entry)) (now (given .entry)) ⌝ }
 {
-    match open_sheet(s) {
-        Opened::Refused(r) => Status::Refused(r),
-        Opened::Sheet(h) => match judge_lent_facts(s, h, values, given, true, true) {
-            Status::Refused(r) => Status::Refused(r),
-            Status::Done => {
-                fill_defaults(s, h, values, given);
-                Status::Done
-            }
-        },
+    match climb_assemble(s, values, given) {
+        Climbed::Stopped(r) => Status::Refused(r),
+        Climbed::At(h) => {
+            fill_defaults(s, h, values, given);
+            Status::Done
+        }
     }
 }
 
@@ -66,27 +80,31 @@ fn judge(s: &[i64], h: Header, values: &[i64], given: &[i64], verdicts: &mut [i6
     settle(s, h, values, given, &mut facts[..n], verdicts);
 }
 
+// The rungs of verdicts: those of fact assembly, with one slice more.
+fn climb_verdicts(s: &[i64], values: &[i64], given: &[i64], room: usize) -> Climbed
+    ensures { λ c. ⌜ c ≡ verdictsClimb (now (s .entry)) (now (values .entry)) (now (given .entry)) room ⌝ }
+{
+    match open_sheet(s) {
+        Climbed::Stopped(r) => Climbed::Stopped(r),
+        Climbed::At(h) => {
+            let long = facts_lent(h, values, given) & (room == h.rules);
+            let t = judge_call(long, true);
+            reached(then_facts(t, s, h, values, given), h)
+        }
+    }
+}
+
 // The verdict of each rule.
 pub fn verdicts(s: &[i64], values: &[i64], given: &[i64], verdicts: &mut [i64]) -> Status
     ensures { λ r. ⌜ r ≡ verdictsAnswer (now (s .entry)) (now (values .entry)) (now (given .entry)) (length (now (verdicts .entry))) ⌝ }
-    ensures { λ r. ⌜ now (verdicts .exit) ≡ verdictsBuffer (now (s .entry)) (now (values .entry)) (now (given .entry)) (now (verdicts .entry)) ⌝ }
+    ensures { λ r. ⌜ now (verdicts .exit) ≡ verdictsVerdicts (now (s .entry)) (now (values .entry)) (now (given .entry)) (now (verdicts .entry)) ⌝ }
 {
-    match open_sheet(s) {
-        Opened::Refused(r) => Status::Refused(r),
-        Opened::Sheet(h) => match judge_lent_facts(
-            s,
-            h,
-            values,
-            given,
-            verdicts.len() == h.rules,
-            true,
-        ) {
-            Status::Refused(r) => Status::Refused(r),
-            Status::Done => {
-                judge(s, h, values, given, verdicts);
-                Status::Done
-            }
-        },
+    match climb_verdicts(s, values, given, verdicts.len()) {
+        Climbed::Stopped(r) => Status::Refused(r),
+        Climbed::At(h) => {
+            judge(s, h, values, given, verdicts);
+            Status::Done
+        }
     }
 }
 
@@ -104,8 +122,8 @@ fn act_on(
 ) -> Count
     requires { ⌜ Asked (now s) h (now values) (now given) (now states) (p .0) (o .0) ⌝ }
     requires { ⌜ (length (now facts) ≡ h .facts) × (length (now verdicts) ≡ h .rules) ⌝ }
-    ensures { λ r. ⌜ r ≡ performedAs (now (s .entry)) h (now (values .entry)) (now (given .entry)) (now (states .entry)) (p .0) (o .0) ⌝ }
-    ensures { λ r. ⌜ now (states .exit) ≡ statesAs (now (s .entry)) h (now (values .entry)) (now (given .entry)) (now (states .entry)) (p .0) (o .0) ⌝ }
+    ensures { λ r. ⌜ r ≡ attemptedOver (now (s .entry)) h (now (values .entry)) (now (given .entry)) (now (states .entry)) (p .0) (o .0) ⌝ }
+    ensures { λ r. ⌜ now (states .exit) ≡ attemptedStatesOver (now (s .entry)) h (now (values .entry)) (now (given .entry)) (now (states .entry)) (p .0) (o .0) ⌝ }
 {
     settle(s, h, values, given, facts, verdicts);
     attempt(s, h, facts, verdicts, states, p, o)
@@ -121,8 +139,8 @@ fn act(
     o: Operation,
 ) -> Count
     requires { ⌜ Asked (now s) h (now values) (now given) (now states) (p .0) (o .0) ⌝ }
-    ensures { λ r. ⌜ r ≡ performedAs (now (s .entry)) h (now (values .entry)) (now (given .entry)) (now (states .entry)) (p .0) (o .0) ⌝ }
-    ensures { λ r. ⌜ now (states .exit) ≡ statesAs (now (s .entry)) h (now (values .entry)) (now (given .entry)) (now (states .entry)) (p .0) (o .0) ⌝ }
+    ensures { λ r. ⌜ r ≡ attemptedOver (now (s .entry)) h (now (values .entry)) (now (given .entry)) (now (states .entry)) (p .0) (o .0) ⌝ }
+    ensures { λ r. ⌜ now (states .exit) ≡ attemptedStatesOver (now (s .entry)) h (now (values .entry)) (now (given .entry)) (now (states .entry)) (p .0) (o .0) ⌝ }
 {
     let mut facts = [0i64; Header::FACTS];
     let mut verdicts = [0i64; Header::RULES];
@@ -141,6 +159,29 @@ fn act(
     )
 }
 
+// The rungs of an operation: 1 to 8.
+fn climb_operate(
+    s: &[i64],
+    values: &[i64],
+    given: &[i64],
+    states: &[i64],
+    persona: i64,
+    operation: i64,
+) -> Climbed
+    ensures { λ c. ⌜ c ≡ operateClimb (now (s .entry)) (now (values .entry)) (now (given .entry)) (now (states .entry)) persona operation ⌝ }
+{
+    match open_sheet(s) {
+        Climbed::Stopped(r) => Climbed::Stopped(r),
+        Climbed::At(h) => {
+            let long = facts_lent(h, values, given) & (states.len() == h.entities);
+            let known = exists(persona, h.personas) & exists(operation, h.operations);
+            let t = judge_call(long, known);
+            let u = then_facts(t, s, h, values, given);
+            reached(then_states(u, s, h, states), h)
+        }
+    }
+}
+
 // One operation by a persona: its outcome.
 pub fn operate(
     s: &[i64],
@@ -153,22 +194,16 @@ pub fn operate(
     ensures { λ r. ⌜ r ≡ operateAnswer (now (s .entry)) (now (values .entry)) (now (given .entry)) (now (states .entry)) persona operation ⌝ }
     ensures { λ r. ⌜ now (states .exit) ≡ operateStates (now (s .entry)) (now (values .entry)) (now (given .entry)) (now (states .entry)) persona operation ⌝ }
 {
-    match open_sheet(s) {
-        Opened::Refused(r) => Count::Refused(r),
-        Opened::Sheet(h) => {
-            let known = exists(persona, h.personas) & exists(operation, h.operations);
-            match judge_lent_states(s, h, values, given, states, true, known) {
-                Status::Refused(r) => Count::Refused(r),
-                Status::Done => act(
-                    s,
-                    h,
-                    values,
-                    given,
-                    states,
-                    Persona(num(persona)),
-                    Operation(num(operation)),
-                ),
-            }
-        }
+    match climb_operate(s, values, given, states, persona, operation) {
+        Climbed::Stopped(r) => Count::Refused(r),
+        Climbed::At(h) => act(
+            s,
+            h,
+            values,
+            given,
+            states,
+            Persona(num(persona)),
+            Operation(num(operation)),
+        ),
     }
 }

@@ -9,121 +9,127 @@ use native.Mathlib.Omega.{arith}
 use native.Mathlib.Decide.{decLt}
 use borrow.Author.Tests.{ltb-true, le-leb}
 use Rattle.signed.specs.Words.{num}
-use Rattle.answer.specs.declared.Status.{Status}
-use Rattle.answer.specs.declared.Status.the-variants.{Done, Refused}
 use Rattle.answer.specs.Answers.{walkAnswer}
 use Rattle.answer.specs.declared.Walk.{Walk}
 use Rattle.answer.specs.declared.Walk.the-variants.{Path as Walked, Refused as NoWalk}
-use Rattle.layout.specs.Header.{headerOf}
-use Rattle.records.proofs.Acceptance.{accepted}
+use Rattle.answer.specs.declared.Status.the-variants.{Done}
+use Rattle.layout.specs.declared.Header.{Header}
 use Rattle.facts.specs.Assembled.{assembled}
 use Rattle.predicate.specs.Verdicts.{verdictsOf}
 use Rattle.listing.specs.Paths.{stepsOf, paths, PathList}
 use Rattle.listing.specs.Calls.{Lent}
 use Rattle.listing.specs.Lists.{Call, First, Next, State, called, calledOn, nexts, count, Listed, readOff}
 use Rattle.listing.proofs.Listing.{calls-listed, listing, held-length, listing-whole, listing-paths}
-use Rattle.run.specs.Runs.{ran, runPath}
+use Rattle.run.specs.Runs.{ran, ranPath}
 use Rattle.run.proofs.RunPaths.{run-listed}
-use Rattle.ladder.proofs.Climb.{ladder-open, all-passed}
-use Rattle.flows.specs.Calls.{flowLadder, firstCall, firstLeft, nextCall, nextLeft, runLadder, runCall, runPathLeft}
-use Rattle.flows.specs.PublicLists.{publicCall, publicCalls, publicReadOff, ListedNumbers, Listable, TookPath}
-use Rattle.flows.proofs.FlowCallLaws.{path-judged, runnable, gone}
+use Rattle.ladder.specs.declared.Climbed.the-variants.{At}
+use Rattle.ladder.specs.Ladder.{opened}
+use Rattle.ladder.proofs.ClimbLaws.{all-passed, opened-at, climbed-at, climbs, by-all}
+use Rattle.calls.specs.Flows.{flowRungs, runRungs, runClimb, runAnswer}
+use Rattle.calls.specs.Lists.{publicCall, publicCalls, publicReadOff, ListedNumbers, Listable, TookPath}
+use Rattle.flows.proofs.FlowCallLaws.{path-judged, runnable, going}
 
 -- ---- lists of calls
 
-module _ {s : List ℤ} {f : ℤ} {b : List ℕ} (u : Listable s f b) where
-  pub listable-lent : Lent s (headerOf s) (num f) b
-  listable-lent = record { sheet = accepted s (u .sheet); flow = ltb-true _ _ (u .flow); room = u .room }
+module _ {s : List ℤ} {h : Header} {f : ℤ} {b : List ℕ} (u : Listable s h f b) where
+  pub listable-lent : Lent s h (num f) b
+  listable-lent = record { sheet = opened-at s refl (u .sheet) .sheet; flow = ltb-true _ _ (u .flow); room = u .room }
 
   -- nothing is refused by the ladder, on any buffer of that length
-  passes : (c : List ℕ) → length c ≡ length b → flowLadder s f (length c) ≡ Done
-  unfolding flowLadder
+  passes : (c : List ℕ) → length c ≡ length b → flowRungs s f (length c) h ≡ Done
+  unfolding flowRungs
   passes c e =
-      ladder-open s _ _ Done Done (u .sheet)
-      ∙ all-passed _ _ (path-judged s (headerOf s) f (length c) (u .flow) ∙ le-leb (stepsOf s (headerOf s) (num f)) (length c) (omega (arith, u .room, e))) (u .flow)
+      all-passed
+      record {
+        lengths = path-judged s h f (length c) (u .flow) ∙ le-leb (stepsOf s h (num f)) (length c) (omega (arith, u .room, e));
+        numbers = u .flow;
+        facts = refl;
+        states = refl;
+      }
 
   -- so a public call is the call below the ladder
-  call-below : (c : List ℕ) → length c ≡ length b → (k : Call) → publicCall s f c k ≡ called s (headerOf s) (num f) c k
-  unfolding publicCall called firstCall firstLeft nextCall nextLeft
-  call-below c e First = let z = passes c e in rw (z, publicCall, firstCall, firstLeft)
-  call-below c e Next = let z = passes c e in rw (z, publicCall, nextCall, nextLeft)
+  call-below : (c : List ℕ) → length c ≡ length b → (k : Call) → publicCall s f c k ≡ called s h (num f) c k
+  unfolding publicCall called
+  call-below c e First = rw (climbs (flowRungs s f (length c)) _ _ (u .sheet) (passes c e), climbs (flowRungs s f (length c)) _ _ (u .sheet) (passes c e))
+  call-below c e Next = rw (climbs (flowRungs s f (length c)) _ _ (u .sheet) (passes c e), climbs (flowRungs s f (length c)) _ _ (u .sheet) (passes c e))
 
   -- what is listed, in 01's numbers
-  in-numbers : (n : ℕ) (t : State) → Listed s (headerOf s) (num f) b n t → ListedNumbers s f b n t
+  in-numbers : (n : ℕ) (t : State) → Listed s h (num f) b n t → ListedNumbers s h f b n t
   in-numbers n t r =
-      record { holds = r .holds; refused = (λ e. none e (decLt n (count s (headerOf s) (num f))), λ l. rw (r .refused .1 l)); answers = λ l. ap walkAnswer (r .answers l) }
+      record { holds = r .holds; refused = (λ e. none e (decLt n (count s h (num f))), λ l. rw (r .refused .1 l)); answers = λ l. ap walkAnswer (r .answers l) }
     where
-      none : walkAnswer (t .answer) .refusal ≡ pos 13 → Dec (n < count s (headerOf s) (num f)) → count s (headerOf s) (num f) ≤ n
+      none : walkAnswer (t .answer) .refusal ≡ pos 13 → Dec (n < count s h (num f)) → count s h (num f) ≤ n
       none e (yes l) = let z : _≡_ {A = ℤ} (pos 0) (pos 13) = rw (r .answers l) at e in absurd (omega (arith, ap natAbs z))
       none e (no l) = omega arith
 
   -- one call keeps what holds along a list
-  one-listed : (n : ℕ) (t : State) → Listed s (headerOf s) (num f) b n t → (k : Call)
-      → Listed s (headerOf s) (num f) b (nexts n (k ∷ [])) (publicCall s f (t .buffer) k)
+  one-listed : (n : ℕ) (t : State) → Listed s h (num f) b n t → (k : Call)
+      → Listed s h (num f) b (nexts n (k ∷ [])) (publicCall s f (t .buffer) k)
   unfolding calledOn
   one-listed n t r k = rw (call-below (t .buffer) (held-length listable-lent n t r) k) (calls-listed listable-lent n t r (k ∷ []))
 
-  rest-listed : (n : ℕ) (t : State) → Listed s (headerOf s) (num f) b n t → (cs : List Call)
-      → Listed s (headerOf s) (num f) b (nexts n cs) (publicCalls s f t cs)
+  rest-listed : (n : ℕ) (t : State) → Listed s h (num f) b n t → (cs : List Call)
+      → Listed s h (num f) b (nexts n cs) (publicCalls s f t cs)
   unfolding nexts publicCalls
   rest-listed n t r [] = r
   rest-listed n t r (First ∷ cs) = rest-listed 0 (publicCall s f (t .buffer) First) (one-listed n t r First) cs
   rest-listed n t r (Next ∷ cs) = rest-listed (suc n) (publicCall s f (t .buffer) Next) (one-listed n t r Next) cs
 
   -- the theorem: of every list of the public calls that starts with a first, refused ones included, whatever the buffer held before
-  pub public-listing : (cs : List Call) → Listed s (headerOf s) (num f) b (nexts 0 (First ∷ cs)) (publicCalls s f (publicCall s f b First) cs)
+  pub public-listing : (cs : List Call) → Listed s h (num f) b (nexts 0 (First ∷ cs)) (publicCalls s f (publicCall s f b First) cs)
   unfolding nexts calledOn
   public-listing cs =
       rest-listed 0 (publicCall s f b First) (rw (call-below b refl First) (listing listable-lent [])) cs
 
   -- the same in 01's numbers
-  pub public-numbers : (cs : List Call) → ListedNumbers s f b (nexts 0 (First ∷ cs)) (publicCalls s f (publicCall s f b First) cs)
+  pub public-numbers : (cs : List Call) → ListedNumbers s h f b (nexts 0 (First ∷ cs)) (publicCalls s f (publicCall s f b First) cs)
   public-numbers cs = in-numbers (nexts 0 (First ∷ cs)) (publicCalls s f (publicCall s f b First) cs) (public-listing cs)
 
   -- ---- a first and then nexts until one is refused
 
-  read-same : (k n : ℕ) (t : State) → Listed s (headerOf s) (num f) b n t → publicReadOff s f k t ≡ readOff s (headerOf s) (num f) k t
+  read-same : (k n : ℕ) (t : State) → Listed s h (num f) b n t → publicReadOff s f k t ≡ readOff s h (num f) k t
   unfolding publicReadOff readOff
   read-same zero n t r = refl
   read-same (suc k) n t r =
       go (t .answer) refl
       (read-same k (nexts n (Next ∷ [])) (publicCall s f (t .buffer) Next) (one-listed n t r Next)
-      ∙ ap (readOff s (headerOf s) (num f) k) (call-below (t .buffer) (held-length listable-lent n t r) Next))
+      ∙ ap (readOff s h (num f) k) (call-below (t .buffer) (held-length listable-lent n t r) Next))
     where
       go : (a : Walk) → t .answer ≡ a
-          → publicReadOff s f k (publicCall s f (t .buffer) Next) ≡ readOff s (headerOf s) (num f) k (called s (headerOf s) (num f) (t .buffer) Next)
-          → publicReadOff s f (suc k) t ≡ readOff s (headerOf s) (num f) (suc k) t
+          → publicReadOff s f k (publicCall s f (t .buffer) Next) ≡ readOff s h (num f) k (called s h (num f) (t .buffer) Next)
+          → publicReadOff s f (suc k) t ≡ readOff s h (num f) (suc k) t
       go (Walked e m) q after = rw (q, publicReadOff, readOff) (ap (λ (z : List (List ℕ)). take m (t .buffer) ∷ z) after)
       go (NoWalk x) q after = rw (q, publicReadOff, readOff)
 
   -- the paths read off the buffer are the flow's list of paths, which is every path, each once, in order
-  pub public-whole : (k : ℕ) → count s (headerOf s) (num f) < k
-      → (publicReadOff s f k (publicCall s f b First) ≡ paths s (headerOf s) (num f)) × PathList s (headerOf s) (num f) (publicReadOff s f k (publicCall s f b First))
+  pub public-whole : (k : ℕ) → count s h (num f) < k
+      → (publicReadOff s f k (publicCall s f b First) ≡ paths s h (num f)) × PathList s h (num f) (publicReadOff s f k (publicCall s f b First))
   unfolding publicCalls nexts
   public-whole k q =
-      let e = read-same k 0 (publicCall s f b First) (public-listing []) ∙ ap (readOff s (headerOf s) (num f) k) (call-below b refl First) in
+      let e = read-same k 0 (publicCall s f b First) (public-listing []) ∙ ap (readOff s h (num f) k) (call-below b refl First) in
       (e ∙ listing-whole listable-lent k q, rw e (listing-paths listable-lent k q))
 
 -- ---- runs
 
-module _ (s values given states : List ℤ) (f : ℤ) (b : List ℕ) where
-  took : runLadder s values given states f (length b) ≡ Done → TookPath s values given states f b
-  unfolding runCall runPathLeft runPath
-  took e =
-      let facts = assembled s (headerOf s) values given in
-      let r = run-listed (runnable (gone s values given states f b e) refl refl) in
-      record {
-        path = ran s (headerOf s) facts (verdictsOf s (headerOf s) facts) states (num f) .path;
-        listed = r .listed;
-        left = rw (e, runPathLeft);
-        answers = rw (e, runCall) (r .answers);
-      }
-
-  -- any run that is not refused, whatever its facts and states, takes one of the listed paths
-  pub run-takes-path : (t n : ℕ) → runCall s values given states f b ≡ Walked t n → TookPath s values given states f b
-  unfolding runCall
-  run-takes-path t n e = go (runLadder s values given states f (length b)) refl
-    where
-      go : (q : Status) → runLadder s values given states f (length b) ≡ q → TookPath s values given states f b
-      go Done d = took d
-      go (Refused r) d = let z : _≡_ {A = ℕ} 0 1 = cc (rw (d, runCall) at e) in absurd (omega arith)
+-- any run that is not refused, whatever its facts and states, takes one of the listed paths
+pub run-takes-path : (s values given states : List ℤ) (f : ℤ) (b : List ℕ) (t n : ℕ) → runAnswer s values given states f b ≡ Walked t n
+    → TookPath s values given states f b
+unfolding ranPath
+run-takes-path s values given states f b t n =
+    by-all (λ (a : Walk). a ≡ Walked t n → TookPath s values given states f b) (runClimb s values given states f (length b)) NoWalk _
+    (λ r p e. let z : _≡_ {A = ℕ} 0 1 = cc in absurd (omega arith))
+    (λ h p e. took h p)
+  where
+    took : (h : Header) → runClimb s values given states f (length b) ≡ At h → TookPath s values given states f b
+    took h p =
+        let w = climbed-at (opened s) (runRungs s values given states f (length b)) refl p in
+        let facts = assembled s h values given in
+        let r = run-listed (runnable (going s values given states f b refl p) refl refl) in
+        record {
+          header = h;
+          sheet = w .sheet;
+          path = ran s h facts (verdictsOf s h facts) states (num f) .path;
+          listed = r .listed;
+          left = climbs (runRungs s values given states f (length b)) _ _ (w .sheet) (w .clear);
+          answers = climbs (runRungs s values given states f (length b)) _ _ (w .sheet) (w .clear) ∙ r .answers;
+        }

@@ -2,27 +2,23 @@
 ghost use mathlib.Core.Path.{_≡_};
 ghost use lib.ListN.{length};
 ghost use Rattle.records.specs.Accepted.{Accepted};
-ghost use Rattle.flows.specs.Calls.{pathLent, entered, firstCall, firstLeft, nextCall, nextLeft, ranAs, pathAs, statesAs, runCall, runPathLeft, runStatesLeft};
+ghost use Rattle.calls.specs.Flows.{pathLent, flowClimb, firstAnswer, firstPath, nextAnswer, nextPath};
+ghost use Rattle.calls.specs.Flows.{ranWalkOver, ranPathOver, ranStatesOver, runClimb, runAnswer, runPath, runStates};
 ghost use Rattle.flows.specs.Going.{Going};
-use answer::Refusal;
-use answer::Status;
 use answer::Walk;
 use evaluate::settle;
-use ladder::Opened;
+use ladder::Climbed;
 use ladder::exists;
+use ladder::facts_lent;
 use ladder::judge_call;
-use ladder::judge_lent_states;
 use ladder::open_sheet;
+use ladder::reached;
+use ladder::then_facts;
+use ladder::then_states;
 use layout::Flow;
 use layout::Header;
 use listing::steps;
 use signed::num;
-
-// An accepted sheet's header and a flow of it, or a refusal 1 to 5.
-pub enum Entered {
-    At(Header, Flow),
-    Refused(Refusal),
-}
 
 // Whether a path buffer is long enough. Where the flow does not exist, it is not judged.
 fn path_lent(s: &[i64], h: Header, flow: i64, room: usize) -> bool
@@ -36,41 +32,38 @@ fn path_lent(s: &[i64], h: Header, flow: i64, room: usize) -> bool
     }
 }
 
-// The ladder for a call that is lent a path buffer alone.
-fn enter(s: &[i64], flow: i64, room: usize) -> Entered
-    ensures { λ r. ⌜ r ≡ entered (now (s .entry)) flow room ⌝ }
+// The rungs of first and next: 1 to 5.
+fn climb_flow(s: &[i64], flow: i64, room: usize) -> Climbed
+    ensures { λ c. ⌜ c ≡ flowClimb (now (s .entry)) flow room ⌝ }
 {
     match open_sheet(s) {
-        Opened::Refused(r) => Entered::Refused(r),
-        Opened::Sheet(h) => {
+        Climbed::Stopped(r) => Climbed::Stopped(r),
+        Climbed::At(h) => {
             let long = path_lent(s, h, flow, room);
-            match judge_call(long, exists(flow, h.flows)) {
-                Status::Refused(r) => Entered::Refused(r),
-                Status::Done => Entered::At(h, Flow(num(flow))),
-            }
+            reached(judge_call(long, exists(flow, h.flows)), h)
         }
     }
 }
 
 // S6: path 0 of a flow.
 pub fn first(s: &[i64], flow: i64, path: &mut [u16]) -> Walk
-    ensures { λ r. ⌜ r ≡ firstCall (now (s .entry)) flow (now (path .entry)) ⌝ }
-    ensures { λ r. ⌜ now (path .exit) ≡ firstLeft (now (s .entry)) flow (now (path .entry)) ⌝ }
+    ensures { λ r. ⌜ r ≡ firstAnswer (now (s .entry)) flow (now (path .entry)) ⌝ }
+    ensures { λ r. ⌜ now (path .exit) ≡ firstPath (now (s .entry)) flow (now (path .entry)) ⌝ }
 {
-    match enter(s, flow, path.len()) {
-        Entered::Refused(r) => Walk::Refused(r),
-        Entered::At(h, f) => listing::first(s, h, f, path),
+    match climb_flow(s, flow, path.len()) {
+        Climbed::Stopped(r) => Walk::Refused(r),
+        Climbed::At(h) => listing::first(s, h, Flow(num(flow)), path),
     }
 }
 
 // S6: the path that follows the one at the buffer's head.
 pub fn next(s: &[i64], flow: i64, path: &mut [u16]) -> Walk
-    ensures { λ r. ⌜ r ≡ nextCall (now (s .entry)) flow (now (path .entry)) ⌝ }
-    ensures { λ r. ⌜ now (path .exit) ≡ nextLeft (now (s .entry)) flow (now (path .entry)) ⌝ }
+    ensures { λ r. ⌜ r ≡ nextAnswer (now (s .entry)) flow (now (path .entry)) ⌝ }
+    ensures { λ r. ⌜ now (path .exit) ≡ nextPath (now (s .entry)) flow (now (path .entry)) ⌝ }
 {
-    match enter(s, flow, path.len()) {
-        Entered::Refused(r) => Walk::Refused(r),
-        Entered::At(h, f) => listing::next(s, h, f, path),
+    match climb_flow(s, flow, path.len()) {
+        Climbed::Stopped(r) => Walk::Refused(r),
+        Climbed::At(h) => listing::next(s, h, Flow(num(flow)), path),
     }
 }
 
@@ -88,9 +81,9 @@ fn go_on(
 ) -> Walk
     requires { ⌜ Going (now s) h (now values) (now given) (now states) (flow .0) (now path) ⌝ }
     requires { ⌜ (length (now facts) ≡ h .facts) × (length (now verdicts) ≡ h .rules) ⌝ }
-    ensures { λ r. ⌜ r ≡ ranAs (now (s .entry)) h (now (values .entry)) (now (given .entry)) (now (states .entry)) (flow .0) ⌝ }
-    ensures { λ r. ⌜ now (path .exit) ≡ pathAs (now (s .entry)) h (now (values .entry)) (now (given .entry)) (now (states .entry)) (flow .0) (now (path .entry)) ⌝ }
-    ensures { λ r. ⌜ now (states .exit) ≡ statesAs (now (s .entry)) h (now (values .entry)) (now (given .entry)) (now (states .entry)) (flow .0) ⌝ }
+    ensures { λ r. ⌜ r ≡ ranWalkOver (now (s .entry)) h (now (values .entry)) (now (given .entry)) (now (states .entry)) (flow .0) ⌝ }
+    ensures { λ r. ⌜ now (path .exit) ≡ ranPathOver (now (s .entry)) h (now (values .entry)) (now (given .entry)) (now (states .entry)) (flow .0) (now (path .entry)) ⌝ }
+    ensures { λ r. ⌜ now (states .exit) ≡ ranStatesOver (now (s .entry)) h (now (values .entry)) (now (given .entry)) (now (states .entry)) (flow .0) ⌝ }
 {
     settle(s, h, values, given, facts, verdicts);
     run::run(s, h, facts, verdicts, states, flow, path)
@@ -106,9 +99,9 @@ fn go(
     path: &mut [u16],
 ) -> Walk
     requires { ⌜ Going (now s) h (now values) (now given) (now states) (flow .0) (now path) ⌝ }
-    ensures { λ r. ⌜ r ≡ ranAs (now (s .entry)) h (now (values .entry)) (now (given .entry)) (now (states .entry)) (flow .0) ⌝ }
-    ensures { λ r. ⌜ now (path .exit) ≡ pathAs (now (s .entry)) h (now (values .entry)) (now (given .entry)) (now (states .entry)) (flow .0) (now (path .entry)) ⌝ }
-    ensures { λ r. ⌜ now (states .exit) ≡ statesAs (now (s .entry)) h (now (values .entry)) (now (given .entry)) (now (states .entry)) (flow .0) ⌝ }
+    ensures { λ r. ⌜ r ≡ ranWalkOver (now (s .entry)) h (now (values .entry)) (now (given .entry)) (now (states .entry)) (flow .0) ⌝ }
+    ensures { λ r. ⌜ now (path .exit) ≡ ranPathOver (now (s .entry)) h (now (values .entry)) (now (given .entry)) (now (states .entry)) (flow .0) (now (path .entry)) ⌝ }
+    ensures { λ r. ⌜ now (states .exit) ≡ ranStatesOver (now (s .entry)) h (now (values .entry)) (now (given .entry)) (now (states .entry)) (flow .0) ⌝ }
 {
     let mut facts = [0i64; Header::FACTS];
     let mut verdicts = [0i64; Header::RULES];
@@ -127,6 +120,30 @@ fn go(
     )
 }
 
+// The rungs of a run: 1 to 8.
+fn climb_run(
+    s: &[i64],
+    values: &[i64],
+    given: &[i64],
+    states: &[i64],
+    flow: i64,
+    room: usize,
+) -> Climbed
+    ensures { λ c. ⌜ c ≡ runClimb (now (s .entry)) (now (values .entry)) (now (given .entry)) (now (states .entry)) flow room ⌝ }
+{
+    match open_sheet(s) {
+        Climbed::Stopped(r) => Climbed::Stopped(r),
+        Climbed::At(h) => {
+            let long = facts_lent(h, values, given)
+                & (states.len() == h.entities)
+                & path_lent(s, h, flow, room);
+            let t = judge_call(long, exists(flow, h.flows));
+            let u = then_facts(t, s, h, values, given);
+            reached(then_states(u, s, h, states), h)
+        }
+    }
+}
+
 // One run of a flow: its terminal and the path that it took.
 pub fn run(
     s: &[i64],
@@ -136,19 +153,12 @@ pub fn run(
     flow: i64,
     path: &mut [u16],
 ) -> Walk
-    ensures { λ r. ⌜ r ≡ runCall (now (s .entry)) (now (values .entry)) (now (given .entry)) (now (states .entry)) flow (now (path .entry)) ⌝ }
-    ensures { λ r. ⌜ now (path .exit) ≡ runPathLeft (now (s .entry)) (now (values .entry)) (now (given .entry)) (now (states .entry)) flow (now (path .entry)) ⌝ }
-    ensures { λ r. ⌜ now (states .exit) ≡ runStatesLeft (now (s .entry)) (now (values .entry)) (now (given .entry)) (now (states .entry)) flow (now (path .entry)) ⌝ }
+    ensures { λ r. ⌜ r ≡ runAnswer (now (s .entry)) (now (values .entry)) (now (given .entry)) (now (states .entry)) flow (now (path .entry)) ⌝ }
+    ensures { λ r. ⌜ now (path .exit) ≡ runPath (now (s .entry)) (now (values .entry)) (now (given .entry)) (now (states .entry)) flow (now (path .entry)) ⌝ }
+    ensures { λ r. ⌜ now (states .exit) ≡ runStates (now (s .entry)) (now (values .entry)) (now (given .entry)) (now (states .entry)) flow (now (path .entry)) ⌝ }
 {
-    match open_sheet(s) {
-        Opened::Refused(r) => Walk::Refused(r),
-        Opened::Sheet(h) => {
-            let long = path_lent(s, h, flow, path.len());
-            let known = exists(flow, h.flows);
-            match judge_lent_states(s, h, values, given, states, long, known) {
-                Status::Refused(r) => Walk::Refused(r),
-                Status::Done => go(s, h, values, given, states, Flow(num(flow)), path),
-            }
-        }
+    match climb_run(s, values, given, states, flow, path.len()) {
+        Climbed::Stopped(r) => Walk::Refused(r),
+        Climbed::At(h) => go(s, h, values, given, states, Flow(num(flow)), path),
     }
 }

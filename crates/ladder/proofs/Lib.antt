@@ -1,2 +1,2 @@
+pub mod ClimbLaws
 pub mod Small
-pub mod Climb

@@ -1,8 +1,8 @@
--- 01, "Refusal numbers": the order of the refusals 1 to 8, which every call that takes a sheet shares. "The smallest number that applies is
--- given"; 6 and 7 are one rung, judged fact by fact.
+-- 01, "Refusal numbers": the order of the refusals 1 to 8, which every call that takes a sheet shares, and what a call answers and leaves by
+-- where its climb stops. "The smallest number that applies is given"; 6 and 7 are one rung, judged fact by fact.
 -- Assumes nothing.
 use mathlib.Core.Bool.{Bool, true, false, _&&_}
-use mathlib.Core.List.{List, [], _∷_}
+use mathlib.Core.List.{List}
 use Prim.Native.Nat.{ℕ}
 use lib.IntN.{ℤ}
 use lib.ListN.{length}
@@ -15,35 +15,57 @@ use Rattle.answer.specs.declared.Status.the-variants.{Done, Refused}
 use Rattle.layout.specs.declared.Header.{Header}
 use Rattle.layout.specs.Header.{headerOf}
 use Rattle.records.specs.Accept.{checked}
-use Rattle.ladder.specs.declared.Opened.{Opened}
-use Rattle.ladder.specs.declared.Opened.the-variants.{Sheet, Refused as Shut}
+use Rattle.ladder.specs.declared.Climbed.{Climbed}
+use Rattle.ladder.specs.declared.Climbed.the-variants.{At, Stopped}
 
--- the first refusal among the rungs
-unfoldable pub firstOf : List Status → Status
-firstOf [] = Done
-firstOf (t ∷ ts) = elim t [ Done ↦ firstOf ts | Refused r ↦ Refused r ]
+-- ---- the rungs
 
--- a refusal that is given exactly where a test fails
+-- "The smallest number that applies is given": this rung, then the next
+unfoldable pub then : Status → Status → Status
+then t u = elim t [ Done ↦ u | Refused r ↦ Refused r ]
+
+-- "given exactly when": a refusal where a test fails
 unfoldable pub unless : Bool → Refusal → Status
 unless ok r = elim ok [ true ↦ Done | false ↦ Refused r ]
 
--- 4: a lent slice has the wrong length. 5: a number does not exist. 6 and 7: the lent facts. 8: the lent states
-abbrev pub rungs : Bool → Bool → Status → Status → List Status
-rungs lengths numbers facts states = unless lengths Length ∷ unless numbers Missing ∷ facts ∷ states ∷ []
+-- 4: a lent slice has the wrong length. 5: a number does not exist. 6 and 7: the lent facts. 8: the lent states. A call that is lent no
+-- facts, or no states, has Done there
+abbrev pub rungs : Bool → Bool → Status → Status → Status
+rungs lengths numbers facts states = then (then (then (unless lengths Length) (unless numbers Missing)) facts) states
 
--- 1, 2 and 3: "calls that take a sheet check it first"; then the other rungs. A call that is lent no facts, or no states, has Done there
-unfoldable pub ladder : List ℤ → Bool → Bool → Status → Status → Status
-ladder s lengths numbers facts states = firstOf (checked s ∷ rungs lengths numbers facts states)
+-- ---- where a climb stops
 
--- the first rungs alone: an accepted sheet's header, or 1, 2 or 3
-unfoldable pub opened : List ℤ → Opened
-opened s = elim (checked s) [ Done ↦ Sheet (headerOf s) | Refused r ↦ Shut r ]
+-- past the rungs so far, under the header h, or at the refusal
+unfoldable pub reached : Status → Header → Climbed
+reached t h = elim t [ Done ↦ At h | Refused r ↦ Stopped r ]
 
--- a number that a caller names exists where it is 0..n−1
+-- "Calls that take a sheet check it first": an accepted sheet's header, or 1, 2 or 3
+unfoldable pub opened : List ℤ → Climbed
+opened s = reached (checked s) (headerOf s)
+
+-- what a call answers: the refusal, or its work under the header
+unfoldable pub by : {A : Type 0} → Climbed → (Refusal → A) → (Header → A) → A
+by c refused work = elim c [ At h ↦ work h | Stopped r ↦ refused r ]
+
+-- the sheet's rungs, then those that are judged under its header
+unfoldable pub climb : Climbed → (Header → Status) → Climbed
+climb o rest = by o Stopped (λ h. reached (rest h) h)
+
+-- "A refused answer .. every lent buffer still holds what it held"
+abbrev pub left : {A : Type 0} → Climbed → A → (Header → A) → A
+left c old work = by c (λ _. old) work
+
+-- the same by a status, where the header is known already
+unfoldable pub after : {A : Type 0} → Status → (Refusal → A) → A → A
+after t refused work = elim t [ Done ↦ work | Refused r ↦ refused r ]
+
+-- ---- the tests of 4 and 5
+
+-- 5: a number that a caller names exists where it is 0..n−1
 abbrev pub exists : ℤ → ℕ → Bool
 exists x n = ltb (num x) n
 
--- a slice that matches a count exactly
+-- 4: a slice that matches a count exactly
 abbrev pub matches : List ℤ → ℕ → Bool
 matches t n = eqb (length t) n
 

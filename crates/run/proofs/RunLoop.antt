@@ -22,7 +22,7 @@ use Rattle.listing.specs.Walkers.{started, taken}
 use Rattle.listing.specs.Calls.{laid}
 use Rattle.listing.proofs.Trails.{trail-going}
 use Rattle.listing.proofs.Walks.{going-room}
-use Rattle.run.specs.Runs.{routeTaken, statesThen, Running, begun, stepped, runOn, ran, runAnswer, runPath, runStates, Steppable, Runnable}
+use Rattle.run.specs.Runs.{routeTaken, statesThen, Running, begun, stepped, runOn, ran, ranWalk, ranPath, ranStates, Steppable, Runnable}
 use Rattle.run.proofs.StepLaws.{route-of, routes-end}
 use Rattle.run.proofs.RunPaths.{Held, held-begun, held-room, held-step, held-stepped, run-stops, run-steps}
 
@@ -62,9 +62,9 @@ module _ {s : List ℤ} {h : Header} {facts verdicts states₀ : List ℤ} {f : 
 
     -- it is finished: the answer, the buffer once it is cleared past the path, and the states
     pub run-done : {path′ : List ℕ} → not (w .finished) ≡ false → path′ ≡ take (w .length) path ++ replicate (length path - w .length) 0
-        → (Walked (w .step) (w .length) ≡ runAnswer s h facts verdicts states₀ f)
-        × ((path′ ≡ runPath s h facts verdicts states₀ f b) × (states ≡ runStates s h facts verdicts states₀ f))
-    unfolding runAnswer runPath runStates laid
+        → (Walked (w .step) (w .length) ≡ ranWalk s h facts verdicts states₀ f)
+        × ((path′ ≡ ranPath s h facts verdicts states₀ f b) × (states ≡ ranStates s h facts verdicts states₀ f))
+    unfolding ranWalk ranPath ranStates laid
     run-done y c =
         let t = running states path w in
         let e : t ≡ ran s h facts verdicts states₀ f = sym (run-stops s h facts verdicts t (stepsOf s h f - w .length) (not-false (w .finished) y)) ∙ g .rest in

@@ -19,7 +19,7 @@ use Rattle.listing.proofs.AllPaths.{path-small}
 use Rattle.listing.proofs.Buffers.{length-laid}
 use Rattle.listing.proofs.Walks.{going-room, going-step}
 use Rattle.listing.proofs.Trails.{Trail, begun as set-out, went, trail-going, trail-is-path, trail-listed, trail-short, trail-arrives}
-use Rattle.run.specs.Runs.{routeTaken, Running, begun, stepped, runOn, ran, runAnswer, runPath, runStates, Steppable, Runnable, Taken}
+use Rattle.run.specs.Runs.{routeTaken, Running, begun, stepped, runOn, ran, ranWalk, ranPath, ranStates, Steppable, Runnable, Taken}
 use Rattle.run.proofs.StepLaws.{route-of, states-then-in}
 
 -- ---- a run by its steps
@@ -80,25 +80,25 @@ module _ {s : List ℤ} {h : Header} {facts verdicts states : List ℤ} {f : ℕ
   done = ends (stepsOf s h f) (begun s h f states) held-begun (omega arith)
 
   -- any run takes the routes of one of the listed paths and answers that path
-  pub run-listed : Taken s h f (ran s h facts verdicts states f) (runAnswer s h facts verdicts states f)
-  unfolding runAnswer
+  pub run-listed : Taken s h f (ran s h facts verdicts states f) (ranWalk s h facts verdicts states f)
+  unfolding ranWalk
   run-listed =
       let t = done .0 .trail in
       let e = done .1 in
       record { finished = e; listed = trail-listed (u .lent) t e; answers = trail-arrives t e; within = trail-short (u .lent) t e }
 
   -- its answer fits a signed word
-  pub run-small : SmallWalk (runAnswer s h facts verdicts states f)
+  pub run-small : SmallWalk (ranWalk s h facts verdicts states f)
   run-small =
       let z = path-small s h (u .lent .sheet) f (u .lent .flow) (ran s h facts verdicts states f .path) (trail-is-path (u .lent) (done .0 .trail) (done .1)) in
       rw (run-listed .answers) (omega arith, omega arith)
 
   -- the states afterwards are among their entities' states
-  pub run-states-in : StatesIn s h (runStates s h facts verdicts states f)
-  unfolding runStates
+  pub run-states-in : StatesIn s h (ranStates s h facts verdicts states f)
+  unfolding ranStates
   run-states-in = done .0 .valid
 
   -- the buffer keeps its length
-  pub run-path-long : length (runPath s h facts verdicts states f b) ≡ length b
-  unfolding runPath
+  pub run-path-long : length (ranPath s h facts verdicts states f b) ≡ length b
+  unfolding ranPath
   run-path-long = length-laid (ran s h facts verdicts states f .path) b (omega (arith, run-listed .within, u .lent .room))

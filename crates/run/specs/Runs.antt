@@ -94,15 +94,15 @@ ran s h facts verdicts states f = runOn s h facts verdicts (stepsOf s h f) (begu
 -- ---- what is answered and left
 
 -- the terminal and the path's length
-unfoldable pub runAnswer : List ℤ → Header → List ℤ → List ℤ → List ℤ → ℕ → Walk
-runAnswer s h facts verdicts states f = arrived (ran s h facts verdicts states f .walker)
+unfoldable pub ranWalk : List ℤ → Header → List ℤ → List ℤ → List ℤ → ℕ → Walk
+ranWalk s h facts verdicts states f = arrived (ran s h facts verdicts states f .walker)
 
 -- the path, and 0 past it
-unfoldable pub runPath : List ℤ → Header → List ℤ → List ℤ → List ℤ → ℕ → List ℕ → List ℕ
-runPath s h facts verdicts states f b = laid (ran s h facts verdicts states f .path) b
+unfoldable pub ranPath : List ℤ → Header → List ℤ → List ℤ → List ℤ → ℕ → List ℕ → List ℕ
+ranPath s h facts verdicts states f b = laid (ran s h facts verdicts states f .path) b
 
-unfoldable pub runStates : List ℤ → Header → List ℤ → List ℤ → List ℤ → ℕ → List ℤ
-runStates s h facts verdicts states f = ran s h facts verdicts states f .states
+unfoldable pub ranStates : List ℤ → Header → List ℤ → List ℤ → List ℤ → ℕ → List ℤ
+ranStates s h facts verdicts states f = ran s h facts verdicts states f .states
 
 -- ---- what is asked
 

@@ -10,7 +10,7 @@ ghost use Rattle.operation.specs.Mask.{allowed};
 ghost use Rattle.operation.specs.States.{StatesIn};
 ghost use Rattle.attempt.specs.Attempts.{precondition, attempted, attemptedStates};
 ghost use Rattle.run.specs.Memo.{Memo};
-ghost use Rattle.run.specs.Runs.{performs, operationAt, personaAt, nodeAt, answerRoute, branchRoute, routeTaken, statesThen, runAnswer, runPath, runStates, Steppable, Runnable};
+ghost use Rattle.run.specs.Runs.{performs, operationAt, personaAt, nodeAt, answerRoute, branchRoute, routeTaken, statesThen, ranWalk, ranPath, ranStates, Steppable, Runnable};
 use answer::Count;
 use answer::Walk;
 use attempt::attempt_known;
@@ -148,9 +148,9 @@ pub fn run(
     path: &mut [u16],
 ) -> Walk
     requires { ⌜ Runnable (now s) h (now facts) (now verdicts) (now states) (flow .0) (now path) ⌝ }
-    ensures { λ r. ⌜ r ≡ runAnswer (now (s .entry)) h (now (facts .entry)) (now (verdicts .entry)) (now (states .entry)) (flow .0) ⌝ }
-    ensures { λ r. ⌜ now (path .exit) ≡ runPath (now (s .entry)) h (now (facts .entry)) (now (verdicts .entry)) (now (states .entry)) (flow .0) (now (path .entry)) ⌝ }
-    ensures { λ r. ⌜ now (states .exit) ≡ runStates (now (s .entry)) h (now (facts .entry)) (now (verdicts .entry)) (now (states .entry)) (flow .0) ⌝ }
+    ensures { λ r. ⌜ r ≡ ranWalk (now (s .entry)) h (now (facts .entry)) (now (verdicts .entry)) (now (states .entry)) (flow .0) ⌝ }
+    ensures { λ r. ⌜ now (path .exit) ≡ ranPath (now (s .entry)) h (now (facts .entry)) (now (verdicts .entry)) (now (states .entry)) (flow .0) (now (path .entry)) ⌝ }
+    ensures { λ r. ⌜ now (states .exit) ≡ ranStates (now (s .entry)) h (now (facts .entry)) (now (verdicts .entry)) (now (states .entry)) (flow .0) ⌝ }
 {
     let mut known = [false; Header::OPERATIONS];
     let mut holds = [false; Header::OPERATIONS];

@@ -1,7 +1,6 @@
 -- `reports::rules` meets its contract: the sheet is opened or refused. Assumes nothing.
-use Rattle.ladder.proofs.Climb.{sheet-open}
-use Rattle.reports.specs.Reports.{rulesReport}
-use Rattle.reports.proofs.ReportLaws.{climb-shut, rules-is}
+use mathlib.Core.Path.{refl}
+use Rattle.ladder.proofs.ClimbLaws.{stopped, worked}
 use borrow.Author.Needs.{needs}
 use Rattle.reports.proofs.rules.Statement.{statement}
 use Rattle.reports.proofs.rules.Tie as tie
@@ -16,15 +15,14 @@ enum-known-h : tie.Need-enum-known-h
 enum-known-h c = search needs
 
 returns : tie.Need-returns
-unfolding rulesReport
 returns c =
     let at-open-sheet = c .before .before .before in
-    climb-shut _ _ _ _ (at-open-sheet .open-sheet .ensures) (c .before .r .given .1)
+    stopped _ _ (at-open-sheet .open-sheet .ensures) (c .before .r .given .1)
 
 returns-2 : tie.Need-returns-2
 returns-2 c =
     let at-open-sheet = c .before .before .before in
-    rules-is (sheet-open _ (at-open-sheet .open-sheet .ensures) (c .before .h .given .1))
+    worked _ _ (at-open-sheet .open-sheet .ensures) (c .before .h .given .1) refl
 
 pub rules-spec : {M : Type 1} → statement M
 rules-spec = tie.close (tie.spec open-sheet-requires enum-known-r enum-known-h returns returns-2)

@@ -1,0 +1,4 @@
+pub mod Evaluation
+pub mod Flows
+pub mod Reports
+pub mod Lists
