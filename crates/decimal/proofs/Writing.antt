@@ -1,19 +1,21 @@
 -- The writer: how many bytes a decimal has, and what the stores of its sign, its digits and its end make of the text.
 -- Assumes nothing.
-use Prim.Native.Nat.{ℕ, zero, suc, _+_, _-_, _*_, _/_, _%_, _^_, _≤_, _<_}
+use Prim.Native.Nat.{ℕ, zero, suc, _+_, _-_, _*_, _/_, _%_, _^_, _≤_, _<_, min}
 use mathlib.Core.Path.{_≡_, refl, sym, _∙_, ap}
-use mathlib.Core.Bool.{true, false, true≢false}
+use mathlib.Core.Bool.{Bool, true, false, cond, true≢false}
 use mathlib.Core.List.{List, [], _∷_, _++_}
 use native.Mathlib.Omega.{arith}
 use native.Mathlib.Numerals.{add-one}
-use native.Mathlib.Nat.{div-add-mod', add-zero, pow-suc}
-use borrow.Author.Tests.{ltb-true}
+use native.Mathlib.Nat.{div-add-mod', add-zero, pow-suc, one-le-pow}
+use borrow.Author.Tests.{ltb-true, leb-true, leb-false}
 use lib.Arith.{digits-div, digits-mod}
+use lib.Dec.{leb}
 use lib.IntN.{ℤ, pos, negsuc, natAbs}
 use lib.ListN.{length, set, length-append}
 use lib.Seq.{sets, set-comm}
 use lib.Signed.{ltZ}
 use Rattle.decimal.specs.Decimal.{M, digits, sign, decimal, hasText}
+use Rattle.decimal.specs.Width.{reached}
 use Rattle.decimal.proofs.Digits.{digits-one, digits-more, digit-ind}
 use Rattle.decimal.proofs.Signed.{small}
 
@@ -38,6 +40,54 @@ width-in =
       | zero ↦ λ s. absurd (omega arith)
       | suc k ↦ λ s. omega (arith, ih k (omega (arith, pow-suc 10 (suc k))), ap length (digits-more m d p h), length-append (digits m) ((48 + d) ∷ []))
     ])
+
+-- and from ten to the power of k on, there are more than k
+pub width-from : (n k : ℕ) → 10 ^ k ≤ n → suc k ≤ length (digits n)
+width-from =
+    digit-ind (λ (n : ℕ). (k : ℕ) → 10 ^ k ≤ n → suc k ≤ length (digits n))
+    (λ d h.
+    elim [
+      | zero ↦ λ s. omega (arith, width-one d h)
+      | suc k ↦ λ s. absurd (omega (arith, pow-suc 10 k, one-le-pow k 10 (omega arith)))
+    ])
+    (λ m d p h ih.
+    elim [
+      | zero ↦ λ s. omega (arith, ap length (digits-more m d p h), length-append (digits m) ((48 + d) ∷ []))
+      | suc k ↦ λ s. omega (arith, ih k (omega (arith, pow-suc 10 k)), ap length (digits-more m d p h), length-append (digits m) ((48 + d) ∷ []))
+    ])
+
+-- a number has a digit
+width-some : (n : ℕ) → 1 ≤ length (digits n)
+width-some =
+    digit-ind (λ (n : ℕ). 1 ≤ length (digits n)) (λ d h. omega (arith, width-one d h))
+    (λ m d p h ih. omega (arith, ap length (digits-more m d p h), length-append (digits m) ((48 + d) ∷ [])))
+
+-- the digits of a number, counted up to k and one more: the next counts where the number reaches that power of ten
+pub width-next : (m k p : ℕ) → p ≡ 10 ^ suc k → min (length (digits m)) (suc k) + reached m p ≡ min (length (digits m)) (suc (suc k))
+width-next m k p e = go (leb p m) refl
+  where
+    go : (t : Bool) → leb p m ≡ t → min (length (digits m)) (suc k) + cond t 1 0 ≡ min (length (digits m)) (suc (suc k))
+    go true h = omega (arith, width-from m (suc k) (omega (arith, leb-true p m h)))
+    go false h = omega (arith, width-in m k (omega (arith, leb-false p m h)))
+
+-- the three sums of `width`, one for each size of number
+module _ (m : ℕ) where
+  pub width-low : m < 1000 → 1 + reached m 10 + reached m 100 ≡ length (digits m)
+  width-low h = omega (arith, width-some m, width-next m 0 10 refl, width-next m 1 100 refl, width-in m 2 h)
+
+  pub width-middle : 1000 ≤ m → m < 1000000 → 4 + reached m 10000 + reached m 100000 ≡ length (digits m)
+  width-middle g h = omega (arith, width-from m 3 g, width-next m 3 10000 refl, width-next m 4 100000 refl, width-in m 5 h)
+
+  pub width-high : 1000000 ≤ m → m ≤ M → 7 + reached m 10000000 + reached m 100000000 + reached m 1000000000 ≡ length (digits m)
+  width-high g h =
+      omega (
+        arith,
+        width-from m 6 g,
+        width-next m 6 10000000 refl,
+        width-next m 7 100000000 refl,
+        width-next m 8 1000000000 refl,
+        width-in m 9 (omega arith),
+      )
 
 pub width-small : (m : ℕ) → m ≤ M → length (digits m) ≤ 10
 width-small m h = width-in m 9 (omega arith)

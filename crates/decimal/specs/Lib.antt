@@ -1,2 +1,3 @@
 pub mod Decimal
 pub mod Scan
+pub mod Width

@@ -6,8 +6,9 @@ ghost use Prim.Native.Nat.{_+_, _<_, _≤_};
 ghost use lib.IntN.{natAbs};
 ghost use lib.ListN.{length, drop};
 ghost use lib.Seq.{sets};
-ghost use Rattle.decimal.specs.Decimal.{digits, sign, decimal, hasText, isDigit};
+ghost use Rattle.decimal.specs.Decimal.{M, digits, sign, decimal, hasText, isDigit};
 ghost use Rattle.decimal.specs.Scan.{goesOn, runAt, boundedRun, numberAt, positiveWord, negativeWord, wordAt, fieldAt, Small};
+ghost use Rattle.decimal.specs.Width.{reached};
 
 // 01's M, the largest magnitude that has a text.
 const LARGEST: usize = 1_000_000_000;
@@ -180,17 +181,25 @@ fn magnitude(w: i64) -> usize
     w as usize
 }
 
-// How many digits a number has.
+// 1 where a number has reached `least`, else 0.
+fn reaches(m: usize, least: usize) -> usize
+    ensures { λ r. ⌜ (r ≡ reached m least) × (r ≤ 1) ⌝ }
+{
+    (least <= m) as usize
+}
+
+// How many digits a number has. Sums of comparisons take no branch, and no division.
 fn width(m: usize) -> usize
+    requires { ⌜ m ≤ M ⌝ }
     ensures { λ r. ⌜ r ≡ length (digits m) ⌝ }
 {
-    let mut n = 1;
-    let mut left = m;
-    while 10 <= left {
-        left /= 10;
-        n += 1;
+    if m < 1_000 {
+        return 1 + reaches(m, 10) + reaches(m, 100);
     }
-    n
+    if m < 1_000_000 {
+        return 4 + reaches(m, 10_000) + reaches(m, 100_000);
+    }
+    7 + reaches(m, 10_000_000) + reaches(m, 100_000_000) + reaches(m, 1_000_000_000)
 }
 
 // How many bytes a word's decimal has.
@@ -206,7 +215,7 @@ pub fn size(w: i64) -> usize
 }
 
 // The last `n` digits of `m`, the last one first: each is the remainder by ten.
-fn put_digits(text: &mut [u8], at: usize, n: usize, m: usize)
+fn put_last(text: &mut [u8], at: usize, n: usize, m: usize)
     requires { ⌜ (n ≡ length (digits m)) × (at + n ≤ length (now text)) ⌝ }
     ensures { λ r. ⌜ now (text .exit) ≡ sets (now (text .entry)) at (digits m) ⌝ }
 {
@@ -217,6 +226,20 @@ fn put_digits(text: &mut [u8], at: usize, n: usize, m: usize)
         text[at + j] = (48 + left % 10) as u8;
         left /= 10;
     }
+}
+
+// A number's digits. The answer is the place after them. Most of a sheet's numbers have one digit.
+fn put_digits(text: &mut [u8], at: usize, m: usize) -> usize
+    requires { ⌜ (m ≤ M) × (at + length (digits m) ≤ length (now text)) ⌝ }
+    ensures { λ r. ⌜ (r ≡ at + length (digits m)) × (now (text .exit) ≡ sets (now (text .entry)) at (digits m)) ⌝ }
+{
+    if m < 10 {
+        text[at] = (48 + m) as u8;
+        return at + 1;
+    }
+    let n = width(m);
+    put_last(text, at, n, m);
+    at + n
 }
 
 // A word's minus, where it has one. The answer is the place after it.
@@ -237,10 +260,8 @@ pub fn put_field(text: &mut [u8], at: usize, w: i64, end: u8) -> usize
     ensures { λ r. ⌜ (r ≡ at + length (decimal w) + 1) × (now (text .exit) ≡ sets (now (text .entry)) at (decimal w ++ (end ∷ []))) ⌝ }
 {
     let m = magnitude(w);
-    let n = width(m);
     let from = put_sign(text, at, w);
-    put_digits(text, from, n, m);
-    let last = from + n;
+    let last = put_digits(text, from, m);
     text[last] = end;
     last + 1
 }

@@ -1,1 +1,3 @@
 pub mod Covered
+pub mod InNumbers
+pub mod Headlines

@@ -3,9 +3,9 @@ ghost use mathlib.Core.Path.{_≡_};
 ghost use lib.ListN.{length};
 ghost use Rattle.answer.specs.Answers.{statusAnswer, countAnswer, walkAnswer};
 ghost use Rattle.records.specs.Accept.{checked};
-ghost use Rattle.evaluate.specs.Calls.{assembleAnswer, assembleValues, verdictsAnswer, verdictsBuffer, operateAnswer, operateStates};
-ghost use Rattle.flows.specs.Calls.{firstCall, firstLeft, nextCall, nextLeft, runCall, runPathLeft, runStatesLeft};
-ghost use Rattle.reports.specs.Reports.{statesReport, reachableReport, admissibleReport, canCauseReport, rulesReport, stratumReport, outcomesReport, treeSizeReport, depthReport};
+ghost use Rattle.calls.specs.Evaluation.{assembleAnswer, assembleValues, verdictsAnswer, verdictsVerdicts, operateAnswer, operateStates};
+ghost use Rattle.calls.specs.Flows.{firstAnswer, firstPath, nextAnswer, nextPath, runAnswer, runPath, runStates};
+ghost use Rattle.calls.specs.Reports.{statesAnswer, reachableAnswer, admissibleAnswer, canCauseAnswer, rulesAnswer, stratumAnswer, outcomesAnswer, treeSizeAnswer, depthAnswer};
 ghost use Rattle.text.specs.Calls.{readAnswer, readBuffer, writeAnswer, writeBuffer};
 use answer::Answer;
 use answer::of_count;
@@ -56,7 +56,7 @@ pub extern "C" fn fernpocket_verdicts(
     verdicts: &mut [i64],
 ) -> Answer
     ensures { λ a. ⌜ a ≡ statusAnswer (verdictsAnswer (now (sheet .entry)) (now (values .entry)) (now (given .entry)) (length (now (verdicts .entry)))) ⌝ }
-    ensures { λ _. ⌜ now (verdicts .exit) ≡ verdictsBuffer (now (sheet .entry)) (now (values .entry)) (now (given .entry)) (now (verdicts .entry)) ⌝ }
+    ensures { λ _. ⌜ now (verdicts .exit) ≡ verdictsVerdicts (now (sheet .entry)) (now (values .entry)) (now (given .entry)) (now (verdicts .entry)) ⌝ }
 {
     of_status(evaluate::verdicts(sheet, values, given, verdicts))
 }
@@ -87,9 +87,9 @@ pub extern "C" fn fernpocket_run(
     flow: i64,
     path: &mut [u16],
 ) -> Answer
-    ensures { λ a. ⌜ a ≡ walkAnswer (runCall (now (sheet .entry)) (now (values .entry)) (now (given .entry)) (now (states .entry)) flow (now (path .entry))) ⌝ }
-    ensures { λ _. ⌜ now (path .exit) ≡ runPathLeft (now (sheet .entry)) (now (values .entry)) (now (given .entry)) (now (states .entry)) flow (now (path .entry)) ⌝ }
-    ensures { λ _. ⌜ now (states .exit) ≡ runStatesLeft (now (sheet .entry)) (now (values .entry)) (now (given .entry)) (now (states .entry)) flow (now (path .entry)) ⌝ }
+    ensures { λ a. ⌜ a ≡ walkAnswer (runAnswer (now (sheet .entry)) (now (values .entry)) (now (given .entry)) (now (states .entry)) flow (now (path .entry))) ⌝ }
+    ensures { λ _. ⌜ now (path .exit) ≡ runPath (now (sheet .entry)) (now (values .entry)) (now (given .entry)) (now (states .entry)) flow (now (path .entry)) ⌝ }
+    ensures { λ _. ⌜ now (states .exit) ≡ runStates (now (sheet .entry)) (now (values .entry)) (now (given .entry)) (now (states .entry)) flow (now (path .entry)) ⌝ }
 {
     of_walk(flows::run(sheet, values, given, states, flow, path))
 }
@@ -97,8 +97,8 @@ pub extern "C" fn fernpocket_run(
 // S6: path 0 of a flow.
 #[no_mangle]
 pub extern "C" fn fernpocket_first(sheet: &[i64], flow: i64, path: &mut [u16]) -> Answer
-    ensures { λ a. ⌜ a ≡ walkAnswer (firstCall (now (sheet .entry)) flow (now (path .entry))) ⌝ }
-    ensures { λ _. ⌜ now (path .exit) ≡ firstLeft (now (sheet .entry)) flow (now (path .entry)) ⌝ }
+    ensures { λ a. ⌜ a ≡ walkAnswer (firstAnswer (now (sheet .entry)) flow (now (path .entry))) ⌝ }
+    ensures { λ _. ⌜ now (path .exit) ≡ firstPath (now (sheet .entry)) flow (now (path .entry)) ⌝ }
 {
     of_walk(flows::first(sheet, flow, path))
 }
@@ -106,8 +106,8 @@ pub extern "C" fn fernpocket_first(sheet: &[i64], flow: i64, path: &mut [u16]) -
 // S6: the path of a flow that follows the one at the buffer's head.
 #[no_mangle]
 pub extern "C" fn fernpocket_next(sheet: &[i64], flow: i64, path: &mut [u16]) -> Answer
-    ensures { λ a. ⌜ a ≡ walkAnswer (nextCall (now (sheet .entry)) flow (now (path .entry))) ⌝ }
-    ensures { λ _. ⌜ now (path .exit) ≡ nextLeft (now (sheet .entry)) flow (now (path .entry)) ⌝ }
+    ensures { λ a. ⌜ a ≡ walkAnswer (nextAnswer (now (sheet .entry)) flow (now (path .entry))) ⌝ }
+    ensures { λ _. ⌜ now (path .exit) ≡ nextPath (now (sheet .entry)) flow (now (path .entry)) ⌝ }
 {
     of_walk(flows::next(sheet, flow, path))
 }
@@ -115,7 +115,7 @@ pub extern "C" fn fernpocket_next(sheet: &[i64], flow: i64, path: &mut [u16]) ->
 // S1: the number of an entity's states.
 #[no_mangle]
 pub extern "C" fn fernpocket_states(sheet: &[i64], entity: i64) -> Answer
-    ensures { λ a. ⌜ a ≡ countAnswer (statesReport (now (sheet .entry)) entity) ⌝ }
+    ensures { λ a. ⌜ a ≡ countAnswer (statesAnswer (now (sheet .entry)) entity) ⌝ }
 {
     of_count(reports::states(sheet, entity))
 }
@@ -123,7 +123,7 @@ pub extern "C" fn fernpocket_states(sheet: &[i64], entity: i64) -> Answer
 // S2: the mask of the states reached from the initial one.
 #[no_mangle]
 pub extern "C" fn fernpocket_reachable(sheet: &[i64], entity: i64) -> Answer
-    ensures { λ a. ⌜ a ≡ countAnswer (reachableReport (now (sheet .entry)) entity) ⌝ }
+    ensures { λ a. ⌜ a ≡ countAnswer (reachableAnswer (now (sheet .entry)) entity) ⌝ }
 {
     of_count(reports::reachable(sheet, entity))
 }
@@ -137,7 +137,7 @@ pub extern "C" fn fernpocket_admissible(
     persona: i64,
     operation: i64,
 ) -> Answer
-    ensures { λ a. ⌜ a ≡ countAnswer (admissibleReport (now (sheet .entry)) entity state persona operation) ⌝ }
+    ensures { λ a. ⌜ a ≡ countAnswer (admissibleAnswer (now (sheet .entry)) entity state persona operation) ⌝ }
 {
     of_count(reports::admissible(sheet, entity, state, persona, operation))
 }
@@ -151,7 +151,7 @@ pub extern "C" fn fernpocket_can_cause(
     from: i64,
     to: i64,
 ) -> Answer
-    ensures { λ a. ⌜ a ≡ countAnswer (canCauseReport (now (sheet .entry)) persona entity from to) ⌝ }
+    ensures { λ a. ⌜ a ≡ countAnswer (canCauseAnswer (now (sheet .entry)) persona entity from to) ⌝ }
 {
     of_count(reports::can_cause(sheet, persona, entity, from, to))
 }
@@ -159,7 +159,7 @@ pub extern "C" fn fernpocket_can_cause(
 // S5: the number of rules.
 #[no_mangle]
 pub extern "C" fn fernpocket_rules(sheet: &[i64]) -> Answer
-    ensures { λ a. ⌜ a ≡ countAnswer (rulesReport (now (sheet .entry))) ⌝ }
+    ensures { λ a. ⌜ a ≡ countAnswer (rulesAnswer (now (sheet .entry))) ⌝ }
 {
     of_count(reports::rules(sheet))
 }
@@ -167,7 +167,7 @@ pub extern "C" fn fernpocket_rules(sheet: &[i64]) -> Answer
 // S5: a rule's stratum.
 #[no_mangle]
 pub extern "C" fn fernpocket_stratum(sheet: &[i64], rule: i64) -> Answer
-    ensures { λ a. ⌜ a ≡ countAnswer (stratumReport (now (sheet .entry)) rule) ⌝ }
+    ensures { λ a. ⌜ a ≡ countAnswer (stratumAnswer (now (sheet .entry)) rule) ⌝ }
 {
     of_count(reports::stratum(sheet, rule))
 }
@@ -175,7 +175,7 @@ pub extern "C" fn fernpocket_stratum(sheet: &[i64], rule: i64) -> Answer
 // S5: the number of an operation's outcomes.
 #[no_mangle]
 pub extern "C" fn fernpocket_outcomes(sheet: &[i64], operation: i64) -> Answer
-    ensures { λ a. ⌜ a ≡ countAnswer (outcomesReport (now (sheet .entry)) operation) ⌝ }
+    ensures { λ a. ⌜ a ≡ countAnswer (outcomesAnswer (now (sheet .entry)) operation) ⌝ }
 {
     of_count(reports::outcomes(sheet, operation))
 }
@@ -183,7 +183,7 @@ pub extern "C" fn fernpocket_outcomes(sheet: &[i64], operation: i64) -> Answer
 // S7: the number of nodes in the tree under a node.
 #[no_mangle]
 pub extern "C" fn fernpocket_tree_size(sheet: &[i64], node: i64) -> Answer
-    ensures { λ a. ⌜ a ≡ countAnswer (treeSizeReport (now (sheet .entry)) node) ⌝ }
+    ensures { λ a. ⌜ a ≡ countAnswer (treeSizeAnswer (now (sheet .entry)) node) ⌝ }
 {
     of_count(reports::tree_size(sheet, node))
 }
@@ -191,7 +191,7 @@ pub extern "C" fn fernpocket_tree_size(sheet: &[i64], node: i64) -> Answer
 // S7: the number of steps on a flow's longest path.
 #[no_mangle]
 pub extern "C" fn fernpocket_depth(sheet: &[i64], flow: i64) -> Answer
-    ensures { λ a. ⌜ a ≡ countAnswer (depthReport (now (sheet .entry)) flow) ⌝ }
+    ensures { λ a. ⌜ a ≡ countAnswer (depthAnswer (now (sheet .entry)) flow) ⌝ }
 {
     of_count(reports::depth(sheet, flow))
 }

@@ -151,9 +151,7 @@ unfolding path
 path-list s h a f l =
     record {
       some = paths-some s h a f l;
-      sound = path-sound s h a f l;
-      complete = path-number s h a f l;
-      ordered = path-order s h f;
+      whole = record { sound = path-sound s h a f l; complete = path-number s h a f l; ordered = path-order s h f };
     }
 
 -- ---- terminals and lengths are small

@@ -14,7 +14,7 @@ use Rattle.answer.specs.declared.Walk.the-variants.{Refused}
 use Rattle.layout.specs.declared.Header.{Header}
 use Rattle.records.specs.Accepted.{Accepted}
 use Rattle.listing.specs.Paths.{PathOf, paths, path}
-use Rattle.listing.specs.Calls.{Lent, begins, Following, Absent, Final, Then, headOf, following, walkOf, firstAnswer, answerOf, nextAnswer}
+use Rattle.listing.specs.Calls.{Lent, begins, Following, Absent, Final, Then, headOf, following, walkOf, firstWalk, answerOf, nextWalk}
 use Rattle.listing.proofs.Follow.{follow-here, follow-later}
 use Rattle.listing.proofs.Lists.{mem-at}
 use Rattle.listing.proofs.AllPaths.{path-small, paths-sound, paths-complete, paths-some}
@@ -58,8 +58,8 @@ absent-answer s h (Then p) e = let z : _≡_ {A = ℕ} 0 1 = cc in absurd (omega
 
 module _ {s : List ℤ} {h : Header} {f : ℕ} {b : List ℕ} (u : Lent s h f b) where
   -- next is refused 12 exactly where the buffer begins with no path of the flow
-  pub not-path : (nextAnswer s h f b ≡ Refused NotPath) ↔ ((p : List ℕ) → PathOf s h f p → begins p b ≡ false)
-  unfolding nextAnswer answerOf
+  pub not-path : (nextWalk s h f b ≡ Refused NotPath) ↔ ((p : List ℕ) → PathOf s h f p → begins p b ≡ false)
+  unfolding nextWalk answerOf
   not-path = (
     λ e p k. absent-none (paths s h f) b (absent-answer s h (following (paths s h f) b) e) p (paths-complete s h (u .sheet) f (u .flow) p k),
     λ k. rw (none-absent (paths s h f) b (λ p m. k p (paths-sound s h (u .sheet) f (u .flow) p m)), answerOf),
@@ -71,12 +71,12 @@ module _ {s : List ℤ} {h : Header} {f : ℕ} (a : Accepted s h) (l : f < h .fl
   small-walk : (p : List ℕ) → List·Memᴰ p (paths s h f) → SmallWalk (walkOf s h p)
   small-walk p m = let z = path-small s h a f l p (paths-sound s h a f l p m) in (omega arith, omega arith)
 
-  pub first-small : SmallWalk (firstAnswer s h f)
-  unfolding firstAnswer path
+  pub first-small : SmallWalk (firstWalk s h f)
+  unfolding firstWalk path
   first-small = small-walk (path s h f 0) (mem-at (paths s h f) 0 (paths-some s h a f l))
 
-  pub next-small : (b : List ℕ) → SmallWalk (nextAnswer s h f b)
-  unfolding nextAnswer answerOf
+  pub next-small : (b : List ℕ) → SmallWalk (nextWalk s h f b)
+  unfolding nextWalk answerOf
   next-small b = go (following (paths s h f) b) refl
     where
       go : (x : Following) → following (paths s h f) b ≡ x → SmallWalk (answerOf s h x)

@@ -17,7 +17,7 @@ use Rattle.listing.specs.Paths.{firstRouteOf, paths, path}
 use Rattle.listing.specs.Walkers.{started, taken, walked, arrived, remaining, firstWay, Going}
 use Rattle.listing.specs.declared.Found.{Found}
 use Rattle.listing.specs.declared.Found.the-variants.{Nowhere, Last, Turn}
-use Rattle.listing.specs.Calls.{Lent, Absent, Final, Then, following, walkOf, laid, firstAnswer, firstBuffer, answerOf, bufferOf, nextAnswer, nextBuffer}
+use Rattle.listing.specs.Calls.{Lent, Absent, Final, Then, following, walkOf, laid, firstWalk, firstLaid, answerOf, bufferOf, nextWalk, nextLaid}
 use Rattle.listing.specs.Seeks.{turnRoute, turned, turning, Turnable, CanTurn, Sought}
 use Rattle.listing.proofs.Ways.{way-route, paths-on}
 use Rattle.listing.proofs.Walks.{remaining-on, start-going, going-on, going-room, first-way, first-way-short, walked-length, arrives}
@@ -58,8 +58,8 @@ module _ {s : List ℤ} {h : Header} {f : ℕ} {b : List ℕ} (u : Lent s h f b)
       subst (λ (p : List ℕ). arrived (walked s h w p) ≡ walkOf s h p) (sym z) (arrives s h w [] (firstRouteOf s h (w .step)) (firstWay s h (taken s h w (firstRouteOf s h (w .step)))) refl)
 
   pub first-done : {w : Walker} {r : Walk} {e : List ℕ} → w ≡ started s h f → r ≡ arrived (walked s h w (firstWay s h w)) → e ≡ laid (take (w .length) b ++ firstWay s h w) b
-      → (r ≡ firstAnswer s h f) × (e ≡ firstBuffer s h f b)
-  unfolding firstAnswer firstBuffer started
+      → (r ≡ firstWalk s h f) × (e ≡ firstLaid s h f b)
+  unfolding firstWalk firstLaid started
   first-done {w} {r} {e} q x y = (x ∙ rw q (first-arrives ∙ ap (walkOf s h) start-first), y ∙ rw (q, start-first))
 
   -- ---- seek: the walk along the buffer starts where the flow's paths do
@@ -74,12 +74,12 @@ module _ {s : List ℤ} {h : Header} {f : ℕ} {b : List ℕ} (u : Lent s h f b)
 -- ---- next: by what `seek` found
 
 module _ {s : List ℤ} {h : Header} {f : ℕ} {b : List ℕ} {r : Found} (k : Sought s h f b r) where
-  pub next-nowhere : r ≡ Nowhere → (Refused NotPath ≡ nextAnswer s h f b) × (b ≡ nextBuffer s h f b)
-  unfolding nextAnswer nextBuffer answerOf bufferOf turning
+  pub next-nowhere : r ≡ Nowhere → (Refused NotPath ≡ nextWalk s h f b) × (b ≡ nextLaid s h f b)
+  unfolding nextWalk nextLaid answerOf bufferOf turning
   next-nowhere e = let z : following (paths s h f) b ≡ Absent = k .follows ∙ ap (turning s h b) e in (rw (z, answerOf), rw (z, bufferOf))
 
-  pub next-last : r ≡ Last → (Refused LastPath ≡ nextAnswer s h f b) × (b ≡ nextBuffer s h f b)
-  unfolding nextAnswer nextBuffer answerOf bufferOf turning
+  pub next-last : r ≡ Last → (Refused LastPath ≡ nextWalk s h f b) × (b ≡ nextLaid s h f b)
+  unfolding nextWalk nextLaid answerOf bufferOf turning
   next-last e = let z : following (paths s h f) b ≡ Final = k .follows ∙ ap (turning s h b) e in (rw (z, answerOf), rw (z, bufferOf))
 
   module _ {v : Walker} (e : r ≡ Turn v) where
@@ -116,6 +116,6 @@ module _ {s : List ℤ} {h : Header} {f : ℕ} {b : List ℕ} {r : Found} (k : S
 
       pub next-done : {t : Walk} {d : List ℕ} → t ≡ arrived (walked s h w (firstWay s h w))
           → d ≡ laid (take (w .length) (set b (v .length) (turnRoute b v)) ++ firstWay s h w) (set b (v .length) (turnRoute b v))
-          → (t ≡ nextAnswer s h f b) × (d ≡ nextBuffer s h f b)
-      unfolding nextAnswer nextBuffer answerOf bufferOf
+          → (t ≡ nextWalk s h f b) × (d ≡ nextLaid s h f b)
+      unfolding nextWalk nextLaid answerOf bufferOf
       next-done x y = (x ∙ rw (q, turn-follows, answerOf) turn-arrives, y ∙ rw (q, turn-follows, bufferOf) turn-laid)

@@ -10,3 +10,4 @@ pub mod Seeking
 pub mod CallLaws
 pub mod Depths
 pub mod Trails
+pub mod OnlyList

@@ -14,7 +14,7 @@ use Rattle.answer.specs.declared.Refusal.the-variants.{LastPath}
 use Rattle.answer.specs.declared.Walk.the-variants.{Refused}
 use Rattle.layout.specs.declared.Header.{Header}
 use Rattle.listing.specs.Paths.{Before, here, later, paths, path, PathList}
-use Rattle.listing.specs.Calls.{Lent, begins, Final, Then, headOf, following, walkOf, laid, firstAnswer, firstBuffer, answerOf, bufferOf, nextAnswer, nextBuffer}
+use Rattle.listing.specs.Calls.{Lent, begins, Final, Then, headOf, following, walkOf, laid, firstWalk, firstLaid, answerOf, bufferOf, nextWalk, nextLaid}
 use Rattle.listing.specs.Lists.{Call, First, Next, State, called, calledOn, nexts, count, Listed, readOff}
 use Rattle.listing.proofs.Follow.{follow-here, follow-later}
 use Rattle.listing.proofs.Buffers.{laid-same, length-laid}
@@ -63,7 +63,7 @@ module _ {s : List ℤ} {h : Header} {f : ℕ} {b : List ℕ} (u : Lent s h f b)
   fits n k = omega (arith, paths-short s h (u .sheet) f (u .flow) (path s h f n) (path-sound s h (u .sheet) f (u .flow) n k), u .room)
 
   first-listed : (c : List ℕ) → length c ≡ length b → Listed s h f b 0 (called s h f c First)
-  unfolding called firstBuffer firstAnswer
+  unfolding called firstLaid firstWalk
   first-listed c e =
       record {
         holds = let z : min 0 (count s h f - 1) ≡ 0 = omega arith in rw z (laid-same (path s h f 0) c b e);
@@ -86,7 +86,7 @@ module _ {s : List ℤ} {h : Header} {f : ℕ} {b : List ℕ} (u : Lent s h f b)
 
   -- the state after a next, by what follows
   next-found : (n : ℕ) (c : List ℕ) → c ≡ laid (path s h f n) b → suc n < count s h f → Listed s h f b (suc n) (called s h f c Next)
-  unfolding called nextBuffer nextAnswer bufferOf answerOf
+  unfolding called nextLaid nextWalk bufferOf answerOf
   next-found n c e k =
       let z : min (suc n) (count s h f - 1) ≡ suc n = omega arith in
       let y = then-next n k in
@@ -97,7 +97,7 @@ module _ {s : List ℤ} {h : Header} {f : ℕ} {b : List ℕ} (u : Lent s h f b)
       }
 
   next-past : (n m : ℕ) (c : List ℕ) → c ≡ laid (path s h f m) b → suc m ≡ count s h f → count s h f ≤ n → Listed s h f b n (called s h f c Next)
-  unfolding called nextBuffer nextAnswer bufferOf answerOf
+  unfolding called nextLaid nextWalk bufferOf answerOf
   next-past n m c e k q =
       let z : min n (count s h f - 1) ≡ m = omega arith in
       let y = then-none m k in

@@ -50,11 +50,11 @@ unfoldable pub laid : List ℕ → List ℕ → List ℕ
 laid p b = p ++ replicate (length b - length p) 0
 
 -- first puts path 0 in the buffer
-unfoldable pub firstAnswer : List ℤ → Header → ℕ → Walk
-firstAnswer s h f = walkOf s h (path s h f 0)
+unfoldable pub firstWalk : List ℤ → Header → ℕ → Walk
+firstWalk s h f = walkOf s h (path s h f 0)
 
-unfoldable pub firstBuffer : List ℤ → Header → ℕ → List ℕ → List ℕ
-firstBuffer s h f b = laid (path s h f 0) b
+unfoldable pub firstLaid : List ℤ → Header → ℕ → List ℕ → List ℕ
+firstLaid s h f b = laid (path s h f 0) b
 
 -- next puts the path that follows the one it finds there; 12 where it finds none, 13 where none follows
 unfoldable pub answerOf : List ℤ → Header → Following → Walk
@@ -67,8 +67,8 @@ bufferOf Absent b = b
 bufferOf Final b = b
 bufferOf (Then p) b = laid p b
 
-unfoldable pub nextAnswer : List ℤ → Header → ℕ → List ℕ → Walk
-nextAnswer s h f b = answerOf s h (following (paths s h f) b)
+unfoldable pub nextWalk : List ℤ → Header → ℕ → List ℕ → Walk
+nextWalk s h f b = answerOf s h (following (paths s h f) b)
 
-unfoldable pub nextBuffer : List ℤ → Header → ℕ → List ℕ → List ℕ
-nextBuffer s h f b = bufferOf (following (paths s h f) b) b
+unfoldable pub nextLaid : List ℤ → Header → ℕ → List ℕ → List ℕ
+nextLaid s h f b = bufferOf (following (paths s h f) b) b

@@ -11,7 +11,7 @@ use Rattle.answer.specs.declared.Walk.{Walk}
 use Rattle.answer.specs.declared.Walk.the-variants.{Path as Walked, Refused}
 use Rattle.layout.specs.declared.Header.{Header}
 use Rattle.listing.specs.Paths.{paths, path}
-use Rattle.listing.specs.Calls.{walkOf, laid, firstAnswer, firstBuffer, nextAnswer, nextBuffer}
+use Rattle.listing.specs.Calls.{walkOf, laid, firstWalk, firstLaid, nextWalk, nextLaid}
 
 -- such a list holds first and next alone
 pub data Call : Type 0 where
@@ -24,8 +24,8 @@ pub record State : Type 0 where
   pub answer : Walk
 
 unfoldable pub called : List ℤ → Header → ℕ → List ℕ → Call → State
-called s h f b First = record { buffer = firstBuffer s h f b; answer = firstAnswer s h f }
-called s h f b Next = record { buffer = nextBuffer s h f b; answer = nextAnswer s h f b }
+called s h f b First = record { buffer = firstLaid s h f b; answer = firstWalk s h f }
+called s h f b Next = record { buffer = nextLaid s h f b; answer = nextWalk s h f b }
 
 -- each further call is lent the buffer as the call before it left it
 unfoldable pub calledOn : List ℤ → Header → ℕ → State → List Call → State

@@ -8,7 +8,7 @@ ghost use Rattle.layout.specs.Sized.{Sized};
 ghost use Rattle.records.specs.Accepted.{Accepted};
 ghost use Rattle.listing.specs.Paths.{firstStepOf, stepsOf, firstRouteOf, routesOf, ends, target};
 ghost use Rattle.listing.specs.Walkers.{started, taken, walked, arrived, firstWay, Going};
-ghost use Rattle.listing.specs.Calls.{Lent, laid, firstAnswer, firstBuffer, nextAnswer, nextBuffer};
+ghost use Rattle.listing.specs.Calls.{Lent, laid, firstWalk, firstLaid, nextWalk, nextLaid};
 ghost use Rattle.listing.specs.Seeks.{Sought};
 ghost use Rattle.listing.specs.Depth.{depth, routeDepth, stepDepth, Shallow};
 use answer::Refusal;
@@ -165,8 +165,8 @@ fn finish(s: &[i64], h: Header, from: Walker, path: &mut [u16]) -> Walk
 // Path 0 of a flow.
 pub fn first(s: &[i64], h: Header, flow: Flow, path: &mut [u16]) -> Walk
     requires { ⌜ Lent (now s) h (flow .0) (now path) ⌝ }
-    ensures { λ r. ⌜ r ≡ firstAnswer (now (s .entry)) h (flow .0) ⌝ }
-    ensures { λ r. ⌜ now (path .exit) ≡ firstBuffer (now (s .entry)) h (flow .0) (now (path .entry)) ⌝ }
+    ensures { λ r. ⌜ r ≡ firstWalk (now (s .entry)) h (flow .0) ⌝ }
+    ensures { λ r. ⌜ now (path .exit) ≡ firstLaid (now (s .entry)) h (flow .0) (now (path .entry)) ⌝ }
 {
     let w = Walker::start(s, h, flow);
     finish(s, h, w, path)
@@ -201,8 +201,8 @@ fn seek(s: &[i64], h: Header, flow: Flow, path: &[u16]) -> Found
 // The path of a flow that follows the one at the buffer's head.
 pub fn next(s: &[i64], h: Header, flow: Flow, path: &mut [u16]) -> Walk
     requires { ⌜ Lent (now s) h (flow .0) (now path) ⌝ }
-    ensures { λ r. ⌜ r ≡ nextAnswer (now (s .entry)) h (flow .0) (now (path .entry)) ⌝ }
-    ensures { λ r. ⌜ now (path .exit) ≡ nextBuffer (now (s .entry)) h (flow .0) (now (path .entry)) ⌝ }
+    ensures { λ r. ⌜ r ≡ nextWalk (now (s .entry)) h (flow .0) (now (path .entry)) ⌝ }
+    ensures { λ r. ⌜ now (path .exit) ≡ nextLaid (now (s .entry)) h (flow .0) (now (path .entry)) ⌝ }
 {
     match seek(s, h, flow, path) {
         Found::Nowhere => Walk::Refused(Refusal::NotPath),

@@ -14,10 +14,10 @@ use words::number;
 use words::record_at;
 
 // Whether a transition or an effect is entity n's and starts from state a.
-pub fn leaves(n: usize, a: usize, r: Record) -> bool
-    ensures { λ b. ⌜ b ≡ leaves n a r ⌝ }
+pub fn leaves(n: Entity, a: usize, r: Record) -> bool
+    ensures { λ b. ⌜ b ≡ leaves (n .0) a r ⌝ }
 {
-    (r.w0 == n) & (r.w1 == a)
+    (r.w0 == n.0) & (r.w1 == a)
 }
 
 // Flags the states that the entity's transitions lead to from `state`: one scan of the transitions.
@@ -27,11 +27,10 @@ fn scan(s: &[i64], h: Header, n: Entity, state: usize, found: &mut [bool])
     ensures { λ r. ⌜ Spread (now (s .entry)) h (n .0) state (now (found .entry)) (now (found .exit)) ⌝ }
 {
     let base = h.first_transition();
-    let entity = n.0;
     let mut k = 0;
     while k < h.transitions {
         let r = record_at(s, base + k);
-        if leaves(entity, state, r) {
+        if leaves(n, state, r) {
             let to = r.w2;
             found[to] = true;
             k += 1;

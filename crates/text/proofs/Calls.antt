@@ -43,6 +43,10 @@ fitted-is room m (Is n) = go (leb n room) refl
     go false h e = absurd (no-count NoRoom m e)
 fitted-is room m (Refused r) = λ e. absurd (no-count r m e)
 
+pub all-judged : {X : Type 0} (ok : X → Bool) (lines : List X) (n : ℕ) → all ok lines ≡ true → judged ok lines n ≡ Is n
+unfolding judged
+all-judged ok lines n h = rw h
+
 -- what an answer that is no refusal says
 pub record Accepted {X : Type 0} (ok : X → Bool) (lines : List X) (n room m : ℕ) : Type 0 where
   pub good : all ok lines ≡ true
@@ -129,6 +133,10 @@ unfolding rows
 length-rows zero ws = refl
 length-rows (suc n) ws = ap suc (length-rows n (drop 8 ws))
 
+pub rows-count : (ws : List ℤ) → length (rowsOf ws) ≡ (length ws + 7) / 8
+unfolding rowsOf
+rows-count ws = length-rows ((length ws + 7) / 8) ws
+
 -- the numbers of both answers fit a signed word
 pub read-small : (text : List ℕ) (room : ℕ) → length text < 2 ^ 63 → room < 2 ^ 63 → SmallCount (readAnswer text room)
 unfolding readAnswer linesOf
@@ -136,6 +144,6 @@ read-small text room p q =
     small-answer goodLine (linesOf text) (length (wordsOf text)) room (omega (arith, length-cut 10 text)) q
 
 pub write-small : (words : List ℤ) (room : ℕ) → length words < 2 ^ 63 → room < 2 ^ 63 → SmallCount (writeAnswer words room)
-unfolding writeAnswer rowsOf
+unfolding writeAnswer
 write-small words room p q =
-    small-answer goodRow (rowsOf words) (length (textOf words)) room (omega (arith, length-rows ((length words + 7) / 8) words)) q
+    small-answer goodRow (rowsOf words) (length (textOf words)) room (omega (arith, rows-count words)) q

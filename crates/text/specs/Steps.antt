@@ -4,13 +4,10 @@ use Prim.Native.Nat.{ℕ, _+_, _%_}
 use mathlib.Core.Bool.{cond}
 use mathlib.Core.List.{List, [], _∷_}
 use lib.Dec.{eqb}
-use lib.IntN.{ℤ}
 use lib.ListN.{length}
-use Rattle.text.specs.Lines.{line, goodRow, linesOf, goodLine}
+use Rattle.text.specs.Lines.{linesOf, goodLine}
 use Rattle.text.specs.declared.LineEnd.{LineEnd}
 use Rattle.text.specs.declared.LineEnd.the-variants.{Next, Bad}
-use Rattle.text.specs.declared.RowSize.{RowSize}
-use Rattle.text.specs.declared.RowSize.the-variants.{Bytes, Bad as NoBytes}
 
 -- the byte after word i of a text: a tab, and LF after the eighth of a line
 abbrev pub endOf : ℕ → ℕ
@@ -23,7 +20,3 @@ firstEnd at (l ∷ ls) = cond (goodLine l) (Next (at + length l)) Bad
 -- where the first line of bytes that stand at place `at` ends, if it is good
 unfoldable pub lineEnd : ℕ → List ℕ → LineEnd
 lineEnd at bytes = firstEnd at (linesOf bytes)
-
--- how many bytes the line of words has, if it is good
-unfoldable pub rowSize : List ℤ → RowSize
-rowSize ws = cond (goodRow ws) (Bytes (length (line ws))) NoBytes

@@ -1,12 +1,13 @@
-// 01, "Text of a sheet": lines of eight words are read and written. One pass judges, and a second one writes.
+// 01, "Text of a sheet": lines of eight words are read and written. One pass judges, a later one writes.
 ghost use mathlib.Core.Path.{_≡_};
 ghost use mathlib.Core.Bool.{true};
 ghost use Prim.Native.Nat.{_≤_};
+ghost use lib.Dec.{leb};
 ghost use lib.ListN.{length, take, drop};
 ghost use lib.Seq.{sets};
 ghost use Rattle.text.specs.Lines.{all, goodRow, rowsOf, textOf, goodLine, linesOf, wordsOf};
-ghost use Rattle.text.specs.Calls.{judged, readAnswer, readBuffer, writeAnswer, writeBuffer};
-ghost use Rattle.text.specs.Steps.{endOf, lineEnd, rowSize};
+ghost use Rattle.text.specs.Calls.{before, judged, readAnswer, readBuffer, writeAnswer, writeBuffer};
+ghost use Rattle.text.specs.Steps.{endOf, lineEnd};
 use answer::Count;
 use answer::Refusal;
 use decimal::Word;
@@ -14,12 +15,6 @@ use decimal::Word;
 // A line's end, or that it is bad.
 pub enum LineEnd {
     Next(usize),
-    Bad,
-}
-
-// How many bytes a line takes, or that it is bad.
-pub enum RowSize {
-    Bytes(usize),
     Bad,
 }
 
@@ -104,51 +99,69 @@ pub fn read(text: &[u8], words: &mut [i64]) -> Count
     }
 }
 
-// The size of the line of the eight words from `from` on. A short last line is bad whatever its words.
-fn row_at(words: &[i64], from: usize) -> RowSize
+// Whether the line of the eight words from `from` on is good. A short last line is bad whatever its words.
+fn row_at(words: &[i64], from: usize) -> bool
     requires { ⌜ from ≤ length (now words) ⌝ }
-    ensures { λ r. ⌜ r ≡ rowSize (take 8 (drop from (now (words .entry)))) ⌝ }
+    ensures { λ r. ⌜ r ≡ goodRow (take 8 (drop from (now (words .entry)))) ⌝ }
 {
     if words.len() - from < 8 {
-        return RowSize::Bad;
+        return false;
     }
-    let mut n = 0;
+    let mut good = true;
     let mut j = 0;
     while j < 8 {
         let w = words[from + j];
-        if !decimal::has_text(w) {
-            return RowSize::Bad;
-        }
-        n += decimal::size(w) + 1;
+        good = good & decimal::has_text(w);
         j += 1;
     }
-    RowSize::Bytes(n)
+    good
 }
 
-// The number of bytes in the words' text, or the first line that has no text.
-fn count_bytes(words: &[i64]) -> Count
-    ensures { λ r. ⌜ r ≡ judged goodRow (rowsOf (now (words .entry))) (length (textOf (now (words .entry)))) ⌝ }
+// How many lines come before the first one that has no text.
+fn good_rows(words: &[i64]) -> usize
+    ensures { λ r. ⌜ r ≡ before goodRow (rowsOf (now (words .entry))) ⌝ }
 {
-    let mut n = 0;
     let mut from = 0;
     let mut k: usize = 0;
     while from < words.len() {
-        match row_at(words, from) {
-            RowSize::Bytes(b) => {
-                n += b;
-                from += 8;
-                k += 1;
-            }
-            RowSize::Bad => return Count::Refused(Refusal::Line(k)),
+        if !row_at(words, from) {
+            return k;
         }
+        from += 8;
+        k += 1;
     }
-    Count::Is(n)
+    k
 }
 
-// The second pass of `write`: the words have a text, and there is room for it.
-fn put(words: &[i64], text: &mut [u8])
+// The number of bytes in the words' text.
+fn count_bytes(words: &[i64]) -> usize
+    requires { ⌜ all goodRow (rowsOf (now words)) ≡ true ⌝ }
+    ensures { λ r. ⌜ r ≡ length (textOf (now (words .entry))) ⌝ }
+{
+    let mut n = 0;
+    let mut i = 0;
+    while i < words.len() {
+        n += decimal::size(words[i]) + 1;
+        i += 1;
+    }
+    n
+}
+
+// Whether the text fits. A word takes at most twelve bytes, so that where there is so much room, none is counted.
+fn has_room(words: &[i64], room: usize) -> bool
+    requires { ⌜ all goodRow (rowsOf (now words)) ≡ true ⌝ }
+    ensures { λ r. ⌜ r ≡ leb (length (textOf (now (words .entry)))) room ⌝ }
+{
+    if words.len() <= room / 12 {
+        return true;
+    }
+    count_bytes(words) <= room
+}
+
+// The last pass of `write`: the words have a text, and there is room for it. The answer is how many bytes it has.
+fn put(words: &[i64], text: &mut [u8]) -> usize
     requires { ⌜ (all goodRow (rowsOf (now words)) ≡ true) × (length (textOf (now words)) ≤ length (now text)) ⌝ }
-    ensures { λ r. ⌜ now (text .exit) ≡ sets (now (text .entry)) 0 (textOf (now (words .entry))) ⌝ }
+    ensures { λ r. ⌜ (r ≡ length (textOf (now (words .entry)))) × (now (text .exit) ≡ sets (now (text .entry)) 0 (textOf (now (words .entry)))) ⌝ }
 {
     let mut at = 0;
     let mut i = 0;
@@ -156,20 +169,19 @@ fn put(words: &[i64], text: &mut [u8])
         at = decimal::put_field(text, at, words[i], ending(i));
         i += 1;
     }
+    at
 }
 
 // Writes the text of words. The answer is how many bytes it has. On refusal, and past the result, `text` stays as it was.
 pub fn write(words: &[i64], text: &mut [u8]) -> Count
     ensures { λ r. ⌜ (r ≡ writeAnswer (now (words .entry)) (length (now (text .entry)))) × (now (text .exit) ≡ writeBuffer (now (words .entry)) (now (text .entry))) ⌝ }
 {
-    match count_bytes(words) {
-        Count::Is(size) => {
-            if text.len() < size {
-                return Count::Refused(Refusal::NoRoom);
-            }
-            put(words, text);
-            Count::Is(size)
-        }
-        Count::Refused(r) => Count::Refused(r),
+    let lines = good_rows(words);
+    if lines * 8 != words.len() {
+        return Count::Refused(Refusal::Line(lines));
     }
+    if !has_room(words, text.len()) {
+        return Count::Refused(Refusal::NoRoom);
+    }
+    Count::Is(put(words, text))
 }

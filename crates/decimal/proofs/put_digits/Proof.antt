@@ -1,79 +1,81 @@
--- `decimal::put_digits` meets its contract. The loop's invariant: with the digits that are left to write, the text is as it is to be. Assumes
--- nothing.
+-- `decimal::put_digits` meets its contract: one digit is its own, more are the last so many. Assumes nothing.
 use borrow.Author.Needs.{needs}
-use Prim.Native.Nat.{ℕ, _≤_}
-use mathlib.Core.Path.{_≡_, _∙_, sym, ap, refl}
-use lib.ListN.{length, length-set}
-use lib.Seq.{sets}
 use native.Mathlib.Omega.{arith}
+use mathlib.Core.Path.{_≡_, refl}
+use lib.ListN.{length}
 use Rattle.decimal.specs.Decimal.{digits}
-use Rattle.decimal.proofs.Writing.{lastDigits, last-all, put-more, put-done}
+use Rattle.decimal.proofs.Digits.{digits-one}
+use Rattle.decimal.proofs.Writing.{width-one}
 use Rattle.decimal.proofs.put_digits.Statement.{statement}
 use Rattle.decimal.proofs.put_digits.Tie as tie
+use Rattle.decimal.proofs.put_digits.Reads as reads
+use Rattle.decimal.proofs.put_digits.Lts as lts
+use Rattle.decimal.proofs.put_last.Reads as put-last-reads
+use Rattle.decimal.proofs.width.Reads as width-reads
 
-abbrev Inv-loop : tie.InvT-loop
-Inv-loop text₀ at n m left₀ j₀ text left j = (j ≤ n) × (length text ≡ length text₀) × (sets text at (lastDigits j left) ≡ sets text₀ at (digits m))
+one : (c : tie.Then1) → length (digits (c .before .before .args .m)) ≡ 1
+one c = width-one (c .before .before .args .m) (c .if1 .taken)
 
-abbrev μ-loop : tie.MeasureT-loop
-μ-loop text₀ at n m left₀ j₀ text left j = j
-
-loop-holds : tie.Need-loop-holds Inv-loop μ-loop
-loop-holds c = (
-  omega arith,
-  refl,
-  ap (λ (k : ℕ). sets (c .args .text .now) (c .args .at) (lastDigits k (c .args .m))) (c .pre .0)
-      ∙ ap (sets (c .args .text .now) (c .args .at)) (last-all (c .args .m)),
-)
-
-sub-j : tie.Need-sub-j Inv-loop μ-loop
-sub-j c = search needs
-
-add-text : tie.Need-add-text Inv-loop μ-loop
+add-text : tie.Need-add-text
 add-text c = search needs
 
-cast-text : tie.Need-cast-text Inv-loop μ-loop
+-- src/lib.rt:237:20
+cast-text : tie.Need-cast-text
 cast-text c = search needs
 
-add-text-2 : tie.Need-add-text-2 Inv-loop μ-loop
-add-text-2 c = search needs
+-- src/lib.rt:237:9
+slice-write-text : tie.Need-slice-write-text
+slice-write-text c = omega (arith, one c)
 
-slice-write-text : tie.Need-slice-write-text Inv-loop μ-loop
-slice-write-text c = search needs
+-- src/lib.rt:238:16
+add-result : tie.Need-add-result
+add-result c = omega (arith, one c)
 
-loop-less : tie.Need-loop-less Inv-loop μ-loop
-loop-less c = search needs
+-- src/lib.rt:238:9
+same-length : tie.Need-same-length
+same-length c = search needs
 
-loop-again : tie.Need-loop-again Inv-loop μ-loop
-loop-again c =
-    let at-start = c .before .before in (
-      omega arith,
-      simp length-set (c .before .loop .inv .1),
-      put-more (c .before .loop .text) (at-start .args .at) (c .before .loop .j) (c .before .loop .left) (c .loop-test .taken)
-          ∙ c .before .loop .inv .2,
-    )
+-- src/lib.rt:238:9
+returns : tie.Need-returns
+returns c = rw (digits-one (c .before .before .args .m) (c .if1 .taken)) (refl, refl)
 
-same-length : tie.Need-same-length Inv-loop μ-loop
-same-length c = c .before .loop .inv .1
+-- src/lib.rt:240:9
+width-requires : tie.Need-width-requires
+width-requires c κs = search needs
 
-returns : tie.Need-returns Inv-loop μ-loop
-returns c =
-    let at-start = c .before .before in
-    sym (put-done (c .before .loop .text) (at-start .args .at) (c .before .loop .j) (c .before .loop .left) (c .loop-test .left))
-    ∙ c .before .loop .inv .2
+-- src/lib.rt:241:5
+put-last-requires : tie.Need-put-last-requires
+put-last-requires c κs = (c .before .width .ensures, omega (arith, c .before .width .ensures))
+
+-- src/lib.rt:242:5
+add-result-2 : tie.Need-add-result-2
+add-result-2 c =
+    let at-width = c .before .before .before .before in
+    omega (arith, at-width .width .ensures)
+
+-- src/lib.rt:232:1
+same-length-2 : tie.Need-same-length-2
+same-length-2 c = c .before .before .put-last .kept .0
+
+-- src/lib.rt:232:1
+returns-2 : tie.Need-returns-2
+returns-2 c =
+    let at-put-last = c .before .before in
+    let at-width = at-put-last .before .before in
+    (omega (arith, at-width .width .ensures), at-put-last .put-last .ensures)
 
 pub put-digits-spec : {M : Type 1} → statement M
 put-digits-spec =
     tie.close
     (tie.spec
-    Inv-loop
-    μ-loop
-    loop-holds
-    sub-j
     add-text
     cast-text
-    add-text-2
     slice-write-text
-    loop-less
-    loop-again
+    add-result
     same-length
-    returns)
+    returns
+    width-requires
+    put-last-requires
+    add-result-2
+    same-length-2
+    returns-2)

@@ -1,5 +1,4 @@
 -- `decimal::size` meets its contract: a sign and digits. Assumes nothing.
-use borrow.Author.Needs.{needs}
 use Rattle.decimal.proofs.Writing.{width-small, length-decimal, sign-minus, sign-none}
 use Rattle.decimal.proofs.Signed.{small}
 use mir.Syntax.{w64}
@@ -23,7 +22,9 @@ magnitude-requires : tie.Need-magnitude-requires
 magnitude-requires c κs = rw (toZ-ofZ w64 (c .args .w) (c .fits .w)) (c .pre)
 
 width-requires : tie.Need-width-requires
-width-requires c κs = search needs
+width-requires c κs =
+    let start = c .before in
+    rw (rw (toZ-ofZ w64 (start .args .w) (start .fits .w)) at (c .magnitude .ensures)) (small (start .args .w) (start .pre))
 
 add-result : tie.Need-add-result
 add-result c =

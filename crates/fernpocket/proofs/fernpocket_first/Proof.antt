@@ -11,7 +11,7 @@ first-requires : tie.Need-first-requires
 first-requires c κs = search needs
 
 of-walk-requires : tie.Need-of-walk-requires
-of-walk-requires c κs = rw (c .before .before .first .ensures .0) (first-call-small _ _ _)
+of-walk-requires c κs = rw (c .before .before .first .ensures .0) (first-call-small _ _ (c .before .before .before .before .before .args .path .now))
 
 same-length : tie.Need-same-length
 same-length c = search needs

@@ -11,7 +11,7 @@ run-requires : tie.Need-run-requires
 run-requires c κs = search needs
 
 of-walk-requires : tie.Need-of-walk-requires
-of-walk-requires c κs = rw (c .before .before .before .run .ensures .0) (run-call-small _ _ _ _ _ _)
+of-walk-requires c κs = rw (c .before .before .before .run .ensures .0) (run-call-small _ _ _ _ _ (c .before .before .before .before .before .before .before .args .path .now))
 
 same-length : tie.Need-same-length
 same-length c = search needs

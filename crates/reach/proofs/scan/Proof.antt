@@ -7,10 +7,10 @@ use Rattle.reach.proofs.scan.Statement.{statement}
 use Rattle.reach.proofs.scan.Tie as tie
 
 abbrev Inv-loop : tie.InvT-loop
-Inv-loop s h state found₀ base entity k₀ found k = Spreading s h entity state found₀ k found
+Inv-loop s h n state found₀ base k₀ found k = Spreading s h (n .0) state found₀ k found
 
 abbrev μ-loop : tie.MeasureT-loop
-μ-loop s h state found₀ base entity k₀ found k = h .transitions - k
+μ-loop s h n state found₀ base k₀ found k = h .transitions - k
 
 first-transition-requires : tie.Need-first-transition-requires Inv-loop μ-loop
 first-transition-requires c κs = search needs

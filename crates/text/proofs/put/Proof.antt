@@ -8,7 +8,7 @@ use lib.IntN.{pos}
 use mir.Val.{toZ, ofZ}
 use mir.Syntax.{w64}
 use mir.ValLaws.{toZ-ofZ}
-use Rattle.text.proofs.WriteLoops.{Putting, putting-none, putting-permitted, putting-room, putting-more, putting-done}
+use Rattle.text.proofs.WriteLoops.{Putting, counting-done, word-permitted, putting-none, putting-room, putting-more, putting-done}
 use Rattle.text.proofs.put.Statement.{statement}
 use Rattle.text.proofs.put.Tie as tie
 
@@ -46,8 +46,7 @@ put-field-requires c κs =
     let start = c .before .before .before .before .before .before in
     let turn = c .before .before .before .before .loop in
     rw (told (c .before)) (
-      putting-permitted (start .args .words .now) (start .pre .0) (start .args .text .now) (turn .text) (turn .at) (turn .i) (turn .inv .1)
-          (c .before .before .before .loop-test .taken),
+      word-permitted (start .args .words .now) (start .pre .0) (turn .i) (c .before .before .before .loop-test .taken),
       putting-room (start .args .words .now) (start .pre .0) (start .args .text .now) (turn .text) (turn .at) (turn .i) (turn .inv .1)
           (c .before .before .before .loop-test .taken),
     )
@@ -75,9 +74,11 @@ same-length c = c .before .loop .inv .1 .size
 returns : tie.Need-returns Inv-loop μ-loop
 returns c =
     let start = c .before .before .before in
-    let turn = c .before .loop in
-    putting-done (start .args .words .now) (start .pre .0) (start .args .text .now) (turn .text) (turn .at) (turn .i) (c .loop-test .left)
-    (turn .inv .1)
+    let turn = c .before .loop in (
+      counting-done (start .args .words .now) (start .pre .0) (turn .at) (turn .i) (c .loop-test .left) (turn .inv .1 .place),
+      putting-done (start .args .words .now) (start .pre .0) (start .args .text .now) (turn .text) (turn .at) (turn .i) (c .loop-test .left)
+          (turn .inv .1),
+    )
 
 pub put-spec : {M : Type 1} → statement M
 put-spec =

@@ -1,0 +1,89 @@
+-- Refusals and answers by their numbers: no refusal has the number 0, a number and a place are one refusal's, and an answer whose refusal
+-- number is 0 is that of a call that went through.
+-- Assumes nothing.
+use Prim.Native.Nat.{ℕ, _≤_}
+use mathlib.Core.Path.{_≡_, refl, sym, _∙_, ap}
+use mathlib.Core.List.{_∷_, []}
+use native.Mathlib.Omega.{arith}
+use lib.IntN.{pos, natAbs}
+use lib.ListN.{getD}
+use Rattle.answer.specs.declared.Refusal.{Refusal}
+use Rattle.answer.specs.declared.Refusal.the-variants.{Header, Group, Record, Length, Missing, FactValue, FactAbsent, State, Persona, Precondition, NoOutcome, NotPath, LastPath, Line, NoRoom}
+use Rattle.answer.specs.declared.Status.{Status}
+use Rattle.answer.specs.declared.Status.the-variants.{Done, Refused}
+use Rattle.answer.specs.declared.Count.{Count}
+use Rattle.answer.specs.declared.Count.the-variants.{Is, Refused as NoCount}
+use Rattle.answer.specs.declared.Walk.{Walk}
+use Rattle.answer.specs.declared.Walk.the-variants.{Path as Walked, Refused as NoWalk}
+use Rattle.answer.specs.Number.{number, place, refusedAnswer}
+use Rattle.answer.specs.Answers.{statusAnswer, countAnswer, walkAnswer}
+
+-- ---- the numbers of refusals
+
+-- the refusal that has a number and a place; 0 stands for none
+refusalOf : ℕ → ℕ → Refusal
+refusalOf n k =
+    getD
+    (NoRoom
+    ∷ Header ∷ Group ∷ Record k ∷ Length ∷ Missing ∷ FactValue k ∷ FactAbsent k ∷ State k
+    ∷ Persona ∷ Precondition ∷ NoOutcome ∷ NotPath ∷ LastPath ∷ Line k ∷ [])
+    n NoRoom
+
+of-own : (r : Refusal) → refusalOf (number r) (place r) ≡ r
+unfolding refusalOf
+of-own Header = refl
+of-own Group = refl
+of-own (Record k) = refl
+of-own Length = refl
+of-own Missing = refl
+of-own (FactValue k) = refl
+of-own (FactAbsent k) = refl
+of-own (State k) = refl
+of-own Persona = refl
+of-own Precondition = refl
+of-own NoOutcome = refl
+of-own NotPath = refl
+of-own LastPath = refl
+of-own (Line k) = refl
+of-own NoRoom = refl
+
+-- two refusals with the same number and place are the same refusal
+pub one-refusal : (r q : Refusal) → number r ≡ number q → place r ≡ place q → r ≡ q
+one-refusal r q e f =
+    sym (of-own r) ∙ ap (λ (n : ℕ). refusalOf n (place r)) e ∙ ap (refusalOf (number q)) f ∙ of-own q
+
+-- a refusal's number is 1 to 15
+pub number-range : (r : Refusal) → (1 ≤ number r) × (number r ≤ 15)
+number-range Header = (omega arith, omega arith)
+number-range Group = (omega arith, omega arith)
+number-range (Record k) = (omega arith, omega arith)
+number-range Length = (omega arith, omega arith)
+number-range Missing = (omega arith, omega arith)
+number-range (FactValue k) = (omega arith, omega arith)
+number-range (FactAbsent k) = (omega arith, omega arith)
+number-range (State k) = (omega arith, omega arith)
+number-range Persona = (omega arith, omega arith)
+number-range Precondition = (omega arith, omega arith)
+number-range NoOutcome = (omega arith, omega arith)
+number-range NotPath = (omega arith, omega arith)
+number-range LastPath = (omega arith, omega arith)
+number-range (Line k) = (omega arith, omega arith)
+number-range NoRoom = (omega arith, omega arith)
+
+-- so none is 0
+pub number-some : (r : Refusal) → refusedAnswer r .refusal ≡ pos 0 → ⊥
+number-some r e = omega (arith, number-range r .0, ap natAbs e)
+
+-- ---- answers whose refusal number is 0
+
+pub status-done : (a : Status) → statusAnswer a .refusal ≡ pos 0 → a ≡ Done
+status-done Done e = refl
+status-done (Refused r) e = absurd (number-some r e)
+
+pub count-done : (a : Count) (n : ℕ) → countAnswer a .refusal ≡ pos 0 → countAnswer a .value ≡ pos n → a ≡ Is n
+count-done (Is m) n e f = ap Is (ap natAbs f)
+count-done (NoCount r) n e f = absurd (number-some r e)
+
+pub walk-done : (a : Walk) → walkAnswer a .refusal ≡ pos 0 → (t : ℕ) × (n : ℕ) × (a ≡ Walked t n)
+walk-done (Walked t n) e = (t, n, refl)
+walk-done (NoWalk r) e = absurd (number-some r e)

@@ -1,0 +1,190 @@
+-- The headline theorems, each with its whole statement: what docs/PROMISES.md promises beyond the exports' contracts. They speak of the
+-- exports' answers in 01's numbers and of the lent buffers as the contracts in src/lib.rt give them. The records that they use stand in
+-- specs/Promised.antt. Each is proved from the laws of the crates below and of InNumbers.antt.
+-- Assumes nothing.
+use mathlib.Core.Path.{_≡_, sym, ap, _∙_}
+use mathlib.Core.Bool.{true}
+use mathlib.Core.List.{List, _∷_}
+use mathlib.Core.Logic.{_↔_}
+use Prim.Native.Nat.{ℕ, _%_, _≤_, _<_}
+use lib.IntN.{ℤ, pos}
+use lib.ListN.{length, take}
+use Rattle.signed.specs.Words.{num}
+use Rattle.signed.proofs.Numbers.{num-of}
+use Rattle.answer.specs.declared.Refusal.{Refusal}
+use Rattle.answer.specs.Number.{number, place, doneAnswer}
+use Rattle.answer.specs.Answers.{statusAnswer, countAnswer, walkAnswer}
+use Rattle.answer.proofs.Numbers.{number-range, one-refusal}
+use Rattle.layout.specs.Header.{headerOf}
+use Rattle.layout.specs.Tables.{effect}
+use Rattle.decimal.specs.Decimal.{hasText}
+use Rattle.text.specs.Lines.{all, textOf}
+use Rattle.text.specs.Calls.{readAnswer, readBuffer, writeAnswer, writeBuffer}
+use Rattle.text.proofs.RoundTrips.{text-again, words-again, one-text}
+use Rattle.operation.specs.Mask.{inMask}
+use Rattle.operation.specs.States.{present}
+use Rattle.operation.specs.Outcomes.{moves}
+use Rattle.operation.proofs.Movers.{moves-true}
+use Rattle.listing.specs.Paths.{paths, WholeList}
+use Rattle.listing.specs.Lists.{Call, First, nexts, count}
+use Rattle.listing.proofs.OnlyList.{paths-whole, only-list}
+use Rattle.reach.specs.Reached.{Reached}
+use Rattle.calls.specs.Evaluation.{assembleAnswer, assembleValues, verdictsAnswer, verdictsVerdicts, operateAnswer, operateStates}
+use Rattle.calls.specs.Flows.{firstAnswer, firstPath, nextAnswer, nextPath, runAnswer, runPath, runStates}
+use Rattle.calls.specs.Reports.{reachableAnswer}
+use Rattle.calls.specs.Lists.{publicCall, publicCalls, ListedNumbers}
+use Rattle.flows.proofs.PublicListing.{public-numbers, public-whole}
+use Rattle.fernpocket.specs.Promised.{Went, WasRefused, Ready, readTo13, RanPath, Operated, Foreseen}
+use Rattle.fernpocket.proofs.Covered.{covered, applied-covered, still-reached}
+use Rattle.fernpocket.proofs.InNumbers.{went-is, listable, ready-sheet, ready-flow, read-same, ran-path, operated, mask-reached}
+use Rattle.fernpocket.proofs.InNumbers.{read-kept, write-kept, assemble-kept, verdicts-kept, operate-kept}
+use Rattle.fernpocket.proofs.InNumbers.{run-path-kept, run-states-kept, first-kept, next-kept}
+
+-- ---- demand 1: refusals
+
+-- A refusal's number is 1 to 15, so that 0 says that a call went through.
+pub refusal-numbers : (r : Refusal) → (1 ≤ number r) × (number r ≤ 15)
+refusal-numbers = number-range
+
+-- A number and a place say which refusal it is.
+pub refusal-known : (r q : Refusal) → number r ≡ number q → place r ≡ place q → r ≡ q
+refusal-known = one-refusal
+
+-- A refused call leaves every lent buffer as it was.
+pub refused-read : (text : List ℕ) (words : List ℤ) → WasRefused (countAnswer (readAnswer text (length words))) → readBuffer text words ≡ words
+refused-read = read-kept
+
+pub refused-write : (words : List ℤ) (text : List ℕ) → WasRefused (countAnswer (writeAnswer words (length text))) → writeBuffer words text ≡ text
+refused-write = write-kept
+
+pub refused-assemble : (s values given : List ℤ) → WasRefused (statusAnswer (assembleAnswer s values given)) → assembleValues s values given ≡ values
+refused-assemble = assemble-kept
+
+pub refused-verdicts : (s values given verdicts : List ℤ)
+    → WasRefused (statusAnswer (verdictsAnswer s values given (length verdicts)))
+    → verdictsVerdicts s values given verdicts ≡ verdicts
+refused-verdicts = verdicts-kept
+
+pub refused-operate : (s values given states : List ℤ) (persona operation : ℤ)
+    → WasRefused (countAnswer (operateAnswer s values given states persona operation))
+    → operateStates s values given states persona operation ≡ states
+refused-operate = operate-kept
+
+pub refused-run : (s values given states : List ℤ) (flow : ℤ) (path : List ℕ)
+    → WasRefused (walkAnswer (runAnswer s values given states flow path))
+    → (runPath s values given states flow path ≡ path) × (runStates s values given states flow path ≡ states)
+refused-run s values given states flow path x =
+    (run-path-kept s values given states flow path x, run-states-kept s values given states flow path x)
+
+pub refused-first : (s : List ℤ) (flow : ℤ) (path : List ℕ) → WasRefused (walkAnswer (firstAnswer s flow path)) → firstPath s flow path ≡ path
+refused-first = first-kept
+
+pub refused-next : (s : List ℤ) (flow : ℤ) (path : List ℕ) → WasRefused (walkAnswer (nextAnswer s flow path)) → nextPath s flow path ≡ path
+refused-next = next-kept
+
+-- ---- demand 2: operations, and what the reports say of them
+
+module _ (s values given states : List ℤ) (persona operation : ℤ) where
+  abbrev after : List ℤ
+  after = operateStates s values given states persona operation
+
+  -- An operation that goes through makes the changes of its chosen outcome that start from the present states, and no others.
+  pub operate-changes : (j : ℕ) → Went (countAnswer (operateAnswer s values given states persona operation)) j
+      → Operated s values given states persona operation j
+  operate-changes j w = operated s values given states persona operation j (went-is (operateAnswer s values given states persona operation) w)
+
+  module _ (n : ℕ) (l : n < headerOf s .entities) where
+    -- Whatever state an operation call changed, S3a and S4 answer yes to for the persona who made it.
+    pub change-foreseen : (present states n ≡ present after n → ⊥) → Foreseen s persona operation n (present states n) (present after n)
+    change-foreseen x =
+        let y = covered s values given states persona operation n l x in
+        record { admissible = ap countAnswer (y .0); caused = ap countAnswer (y .1) }
+
+    -- And so for each effect of the outcome answered that started from its entity's state, also one that leads back to that state.
+    pub effect-foreseen : (j e : ℕ) → Went (countAnswer (operateAnswer s values given states persona operation)) j
+        → moves s (headerOf s) states (num operation) j n e ≡ true
+        → Foreseen s persona operation n (effect s (headerOf s) e .w1) (effect s (headerOf s) e .w2)
+    effect-foreseen j e w m =
+        let y =
+        applied-covered s values given states persona operation n l j e (went-is (operateAnswer s values given states persona operation) w)
+        (moves-true s (headerOf s) states (num operation) j n e m) in
+        record { admissible = ap countAnswer (y .0); caused = ap countAnswer (y .1) }
+
+    -- A state that S2's mask has is led by an operation call to one that it has.
+    pub reached-stays : (mask : ℕ) → Went (countAnswer (reachableAnswer s (pos n))) mask
+        → inMask mask (present states n) ≡ true → inMask mask (present after n) ≡ true
+    reached-stays mask w b =
+        let is = rw (num-of n) at (mask-reached s (pos n) mask (went-is (reachableAnswer s (pos n)) w)) in
+        is (present after n) .0 (still-reached s values given states persona operation n l (is (present states n) .1 b))
+
+-- S2's mask has exactly the states reached from the initial one by zero or more declared transitions.
+pub mask-is-reached : (s : List ℤ) (entity : ℤ) (mask : ℕ) → Went (countAnswer (reachableAnswer s entity)) mask
+    → (q : ℕ) → Reached s (headerOf s) (num entity) q ↔ (inMask mask q ≡ true)
+mask-is-reached s entity mask w = mask-reached s entity mask (went-is (reachableAnswer s entity) w)
+
+-- ---- demand 2: the text of a sheet
+
+-- A text that was read, written again with room enough, is the same bytes.
+pub read-then-write : (text : List ℕ) (lentWords : List ℤ) (n : ℕ) (lentText : List ℕ)
+    → Went (countAnswer (readAnswer text (length lentWords))) n
+    → length text ≤ length lentText
+    → (countAnswer (writeAnswer (take n (readBuffer text lentWords)) (length lentText)) ≡ doneAnswer (length text) 0)
+    × (take (length text) (writeBuffer (take n (readBuffer text lentWords)) lentText) ≡ text)
+read-then-write text lentWords n lentText w r =
+    let again = text-again text lentWords n lentText (went-is (readAnswer text (length lentWords)) w) r in
+    (ap countAnswer (again .0), again .1)
+
+-- Whole lines of words in the permitted range, written and read again with room enough, are the same words.
+pub write-then-read : (words : List ℤ) (lentText : List ℕ) (lentWords : List ℤ)
+    → length words % 8 ≡ 0
+    → all hasText words ≡ true
+    → length (textOf words) ≤ length lentText
+    → length words ≤ length lentWords
+    → (n : ℕ)
+    × (countAnswer (writeAnswer words (length lentText)) ≡ doneAnswer n 0)
+    × (countAnswer (readAnswer (take n (writeBuffer words lentText)) (length lentWords)) ≡ doneAnswer (length words) 0)
+    × (take (length words) (readBuffer (take n (writeBuffer words lentText)) lentWords) ≡ words)
+write-then-read words lentText lentWords whole texts roomText roomWords =
+    let again = words-again words lentText lentWords whole texts roomText roomWords in
+    (again .0, ap countAnswer (again .1), ap countAnswer (again .2), again .3)
+
+-- No two texts have the same words.
+pub one-text-of-words : (text text′ : List ℕ) (lent lent′ : List ℤ) (n : ℕ)
+    → Went (countAnswer (readAnswer text (length lent))) n
+    → Went (countAnswer (readAnswer text′ (length lent′))) n
+    → take n (readBuffer text lent) ≡ take n (readBuffer text′ lent′)
+    → text ≡ text′
+one-text-of-words text text′ lent lent′ n w w′ e =
+    one-text text text′ lent lent′ n (went-is (readAnswer text (length lent)) w) (went-is (readAnswer text′ (length lent′)) w′) e
+
+-- ---- demand 3: the list of paths
+
+module _ {s : List ℤ} {flow : ℤ} {path : List ℕ} (u : Ready s flow path) where
+  -- `paths` has every path of the flow and nothing else, in 01's order,
+  pub paths-all : WholeList s (headerOf s) (num flow) (paths s (headerOf s) (num flow))
+  paths-all = paths-whole s (headerOf s) (ready-sheet u) (num flow) (ready-flow u)
+
+  -- and is the only list that has.
+  pub paths-only : {ps : List (List ℕ)} → WholeList s (headerOf s) (num flow) ps → ps ≡ paths s (headerOf s) (num flow)
+  paths-only w = only-list s (headerOf s) (ready-sheet u) (num flow) (ready-flow u) w
+
+  -- Of every list of calls that starts with a first, refused ones included, whatever the buffer held before: the buffer holds path n, or the
+  -- last path if there is no path n, and 0 past it; refusal 13 exactly when there is no path n, else that path's terminal and length.
+  pub every-list-of-calls : (cs : List Call)
+      → ListedNumbers s (headerOf s) flow path (nexts 0 (First ∷ cs)) (publicCalls s flow (publicCall s flow path First) cs)
+  every-list-of-calls cs = public-numbers (listable u) cs
+
+  -- A first and then nexts until 13 list every path, each once, in the stated order: whatever list has them all so, it is that list.
+  pub whole-listing : {ps : List (List ℕ)} → WholeList s (headerOf s) (num flow) ps → (k : ℕ) → length ps < k
+      → readTo13 s flow k (publicCall s flow path First) ≡ ps
+  unfolding count
+  whole-listing {ps} w k l =
+      let only : ps ≡ paths s (headerOf s) (num flow) = paths-only w in
+      read-same u k ∙ public-whole (listable u) k (rw only at l) .0 ∙ sym only
+
+-- Any run that is not refused, whatever its facts and states, takes the routes of one of these paths, and answers that path's terminal and
+-- length.
+pub run-takes-listed-path : (s values given states : List ℤ) (flow : ℤ) (path : List ℕ)
+    → walkAnswer (runAnswer s values given states flow path) .refusal ≡ pos 0
+    → RanPath s values given states flow path
+run-takes-listed-path = ran-path

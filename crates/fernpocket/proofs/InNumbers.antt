@@ -1,0 +1,271 @@
+-- Laws behind the headline theorems: from 01's numbers to the answers' cases, and what each call then did.
+-- Assumes nothing.
+use mathlib.Core.Path.{_≡_, refl, sym, ap, subst, _∙_}
+use mathlib.Core.Bool.{Bool, true}
+use mathlib.Core.List.{List, [], _∷_, _++_}
+use mathlib.Core.Logic.{_↔_}
+use Prim.Native.Nat.{ℕ, zero, suc, _<_}
+use lib.IntN.{ℤ, pos}
+use lib.ListN.{length, take}
+use native.Mathlib.Omega.{arith}
+use native.Mathlib.Decide.{decLt}
+use borrow.Author.Tests.{ltb-true}
+use Rattle.signed.specs.Words.{num, eqZ}
+use Rattle.answer.specs.declared.Refusal.{Refusal}
+use Rattle.answer.specs.declared.Refusal.the-variants.{LastPath}
+use Rattle.answer.specs.declared.Status.{Status}
+use Rattle.answer.specs.declared.Status.the-variants.{Refused}
+use Rattle.answer.specs.declared.Count.{Count}
+use Rattle.answer.specs.declared.Count.the-variants.{Is, Refused as NoCount}
+use Rattle.answer.specs.declared.Walk.{Walk}
+use Rattle.answer.specs.declared.Walk.the-variants.{Path as Walked, Refused as NoWalk}
+use Rattle.answer.specs.Answers.{statusAnswer, countAnswer, walkAnswer}
+use Rattle.answer.proofs.Numbers.{status-done, count-done, walk-done}
+use Rattle.layout.specs.declared.Header.{Header}
+use Rattle.layout.specs.Header.{headerOf}
+use Rattle.records.specs.Accepted.{Accepted}
+use Rattle.records.proofs.Acceptance.{accepted}
+use Rattle.operation.specs.Mask.{inMask}
+use Rattle.operation.proofs.Movers.{moves-true, true-moves}
+use Rattle.operation.proofs.Guarantees.{Fate, moved as Goes, unmoved as Stays, chosen-first, fate}
+use Rattle.facts.specs.Assembled.{assembled}
+use Rattle.predicate.specs.Verdicts.{verdictsOf}
+use Rattle.attempt.proofs.AttemptLaws.{Comes, barred, untrue, stuck, went, comes, outcome-states, refused-states}
+use Rattle.listing.specs.Paths.{PathOf, paths, At as In}
+use Rattle.listing.specs.Calls.{Following, Absent, Final, Then, following, firstWalk, nextWalk, nextLaid, answerOf, bufferOf}
+use Rattle.listing.specs.Lists.{Call, First, Next, State, nexts, count, Listed}
+use Rattle.listing.proofs.AllPaths.{path-list}
+use Rattle.run.proofs.RunPaths.{run-listed}
+use Rattle.reach.specs.Reached.{Reached}
+use Rattle.ladder.specs.declared.Climbed.{Climbed}
+use Rattle.ladder.specs.declared.Climbed.the-variants.{At, Stopped}
+use Rattle.ladder.specs.Ladder.{opened, by, left, exists}
+use Rattle.ladder.proofs.ClimbLaws.{worked, by-all, climbed-at, opened-at, opened-done}
+use Rattle.calls.specs.Evaluation.{assembleClimb, assembleAnswer, assembleValues, verdictsClimb, verdictsAnswer, verdictsVerdicts}
+use Rattle.calls.specs.Evaluation.{operateClimb, attemptedOver, attemptedStatesOver, operateAnswer, operateStates}
+use Rattle.calls.specs.Flows.{flowClimb, firstAnswer, firstPath, nextAnswer, nextPath}
+use Rattle.calls.specs.Flows.{runRungs, runClimb, ranWalkOver, runAnswer, runPath, runStates}
+use Rattle.calls.specs.Reports.{reportRungs, reportClimb, reachableAnswer}
+use Rattle.calls.specs.Lists.{publicCall, publicCalls, publicReadOff, Listable, TookPath}
+use Rattle.flows.proofs.FlowCallLaws.{runnable, going}
+use Rattle.flows.proofs.PublicListing.{public-listing, run-takes-path}
+use Rattle.text.specs.Lines.{wordsOf, textOf}
+use Rattle.text.specs.Calls.{readAnswer, readBuffer, writeAnswer, writeBuffer, filled}
+use Rattle.reports.proofs.ReportLaws.{asked, reachable-is}
+use Rattle.fernpocket.specs.Promised.{Went, WasRefused, Ready, readTo13, RanPath, After, moved, stayed, Operated}
+use Rattle.fernpocket.proofs.Covered.{under-header, Made, made, made-after, attempt-ready}
+
+-- ---- answers
+
+pub went-is : (c : Count) {n : ℕ} → Went (countAnswer c) n → c ≡ Is n
+went-is c {n} w = count-done c n (w .refusal) (w .value)
+
+-- ---- lists of calls
+
+pub listable : {s : List ℤ} {f : ℤ} {b : List ℕ} → Ready s f b → Listable s (headerOf s) f b
+listable {s} u = record { sheet = sym (opened-done s (status-done _ (u .sheet))); flow = u .flow; room = u .room }
+
+module _ {s : List ℤ} {f : ℤ} {b : List ℕ} (u : Ready s f b) where
+  pub ready-sheet : Accepted s (headerOf s)
+  ready-sheet = accepted s (status-done _ (u .sheet))
+
+  pub ready-flow : num f < headerOf s .flows
+  ready-flow = ltb-true _ _ (u .flow)
+
+  -- one more call at a list's end
+  calls-more : (t : State) (cs : List Call) (c : Call) → publicCalls s f t (cs ++ (c ∷ [])) ≡ publicCall s f (publicCalls s f t cs .buffer) c
+  unfolding publicCalls
+  calls-more t [] c = refl
+  calls-more t (d ∷ cs) c = calls-more (publicCall s f (t .buffer) d) cs c
+
+  abbrev afterCalls : List Call → State
+  afterCalls cs = publicCalls s f (publicCall s f b First) cs
+
+  -- along a list that starts with a first, the only refusal is 13
+  same-read : (k : ℕ) (cs : List Call) → readTo13 s f k (afterCalls cs) ≡ publicReadOff s f k (afterCalls cs)
+  unfolding readTo13 publicReadOff eqZ
+  same-read zero cs = refl
+  same-read (suc k) cs =
+      go (afterCalls cs .answer) refl (public-listing (listable u) cs)
+      (subst (λ (t : State). readTo13 s f k t ≡ publicReadOff s f k t)
+      (calls-more (publicCall s f b First) cs Next) (same-read k (cs ++ (Next ∷ []))))
+    where
+      go : (a : Walk) → afterCalls cs .answer ≡ a → Listed s (headerOf s) (num f) b (nexts 0 (First ∷ cs)) (afterCalls cs)
+          → readTo13 s f k (publicCall s f (afterCalls cs .buffer) Next) ≡ publicReadOff s f k (publicCall s f (afterCalls cs .buffer) Next)
+          → readTo13 s f (suc k) (afterCalls cs) ≡ publicReadOff s f (suc k) (afterCalls cs)
+      go (Walked t m) e l ih =
+          rw (readTo13, publicReadOff, e, e) (ap (λ (z : List (List ℕ)). take m (afterCalls cs .buffer) ∷ z) ih)
+      go (NoWalk r) e l ih = rw (last (decLt (nexts 0 (First ∷ cs)) (count s (headerOf s) (num f))), readTo13, publicReadOff)
+        where
+          last : Dec (nexts 0 (First ∷ cs) < count s (headerOf s) (num f)) → afterCalls cs .answer ≡ NoWalk LastPath
+          last (yes d) = let z : _≡_ {A = ℕ} 0 1 = cc (sym e ∙ l .answers d) in absurd (omega arith)
+          last (no d) = l .refused .1 (omega arith)
+
+  pub read-same : (k : ℕ) → readTo13 s f k (publicCall s f b First) ≡ publicReadOff s f k (publicCall s f b First)
+  unfolding publicCalls
+  read-same k = same-read k []
+
+-- ---- runs
+
+module _ (s values given states : List ℤ) (f : ℤ) (b : List ℕ) where
+  pub ran-path : walkAnswer (runAnswer s values given states f b) .refusal ≡ pos 0 → RanPath s values given states f b
+  ran-path e =
+      let w = walk-done (runAnswer s values given states f b) e in
+      by-all (λ (a : Walk). a ≡ Walked (w .0) (w .1) → RanPath s values given states f b) (runClimb s values given states f (length b)) NoWalk _
+      (λ r p q. let z : _≡_ {A = ℕ} 0 1 = cc in absurd (omega arith))
+      (λ h p q. took p (run-takes-path s values given states f b (w .0) (w .1) (w .2)))
+      (w .2)
+    where
+      took : {h : Header} → runClimb s values given states f (length b) ≡ At h → TookPath s values given states f b
+          → RanPath s values given states f b
+      took p r =
+          let header : headerOf s ≡ r .header = opened-at s refl (r .sheet) .header in
+          let lent = going s values given states f b refl (under-header s (runRungs s values given states f (length b)) p) .lent in
+          let whole = path-list s (headerOf s) (lent .sheet) (num f) (lent .flow) .whole in
+          let listed : In (paths s (headerOf s) (num f)) (r .path) = rw header (r .listed) in
+          record {
+            path = r .path;
+            is = subst (PathOf s (headerOf s) (num f)) (listed .is) (whole .sound (listed .number) (listed .below));
+            listed = listed;
+            left = r .left;
+            value = rw header (ap (λ (a : Walk). walkAnswer a .value) (r .answers));
+            long = ap (λ (a : Walk). walkAnswer a .length) (r .answers);
+          }
+
+-- ---- calls that are refused leave every lent buffer as it was
+
+-- a call that stops on the ladder does; so it is enough that one past the ladder does
+kept : {A B : Type 0} (P : A → Type 0) (c : Climbed) (f : Refusal → A) (g : Header → A) (old : B) (work : Header → B)
+    → ((h : Header) → c ≡ At h → P (g h) → work h ≡ old) → P (by c f g) → left c old work ≡ old
+unfolding by
+kept P (At h) f g old work k x = k h refl x
+kept P (Stopped r) f g old work k x = refl
+
+module _ (s values given states : List ℤ) (f : ℤ) (b : List ℕ) where
+  -- no run is refused past the ladder
+  runs : (h : Header) → runClimb s values given states f (length b) ≡ At h → WasRefused (walkAnswer (ranWalkOver s h values given states (num f))) → ⊥
+  runs h e x =
+      x (ap (λ (a : Walk). walkAnswer a .refusal) (run-listed (runnable (going s values given states f b refl e) refl refl) .answers))
+
+  module _ (x : WasRefused (walkAnswer (runAnswer s values given states f b))) where
+    pub run-path-kept : runPath s values given states f b ≡ b
+    run-path-kept =
+        kept (λ (a : Walk). WasRefused (walkAnswer a)) (runClimb s values given states f (length b)) NoWalk _ b _
+        (λ h e y. absurd (runs h e y)) x
+
+    pub run-states-kept : runStates s values given states f b ≡ states
+    run-states-kept =
+        kept (λ (a : Walk). WasRefused (walkAnswer a)) (runClimb s values given states f (length b)) NoWalk _ states _
+        (λ h e y. absurd (runs h e y)) x
+
+module _ (s : List ℤ) (f : ℤ) (b : List ℕ) where
+  pub first-kept : WasRefused (walkAnswer (firstAnswer s f b)) → firstPath s f b ≡ b
+  unfolding firstWalk
+  first-kept x = kept (λ (a : Walk). WasRefused (walkAnswer a)) (flowClimb s f (length b)) NoWalk _ b _ (λ h e y. absurd (y refl)) x
+
+  following-kept : (h : Header) (t : Following) → WasRefused (walkAnswer (answerOf s h t)) → bufferOf t b ≡ b
+  unfolding answerOf bufferOf
+  following-kept h Absent x = refl
+  following-kept h Final x = refl
+  following-kept h (Then p) x = absurd (x refl)
+
+  pub next-kept : WasRefused (walkAnswer (nextAnswer s f b)) → nextPath s f b ≡ b
+  unfolding nextWalk nextLaid
+  next-kept x =
+      kept (λ (a : Walk). WasRefused (walkAnswer a)) (flowClimb s f (length b)) NoWalk _ b _
+      (λ h e y. following-kept h (following (paths s h (num f)) b) y) x
+
+filled-kept : {Y : Type 0} (c : Count) (result lent : List Y) → WasRefused (countAnswer c) → filled c result lent ≡ lent
+unfolding filled
+filled-kept (Is n) result lent x = absurd (x refl)
+filled-kept (NoCount r) result lent x = refl
+
+pub read-kept : (text : List ℕ) (words : List ℤ) → WasRefused (countAnswer (readAnswer text (length words))) → readBuffer text words ≡ words
+unfolding readBuffer
+read-kept text words x = filled-kept (readAnswer text (length words)) (wordsOf text) words x
+
+pub write-kept : (words : List ℤ) (text : List ℕ) → WasRefused (countAnswer (writeAnswer words (length text))) → writeBuffer words text ≡ text
+unfolding writeBuffer
+write-kept words text x = filled-kept (writeAnswer words (length text)) (textOf words) text x
+
+pub assemble-kept : (s values given : List ℤ) → WasRefused (statusAnswer (assembleAnswer s values given)) → assembleValues s values given ≡ values
+assemble-kept s values given x =
+    kept (λ (a : Status). WasRefused (statusAnswer a)) (assembleClimb s values given) Refused _ values _ (λ h e y. absurd (y refl)) x
+
+pub verdicts-kept : (s values given verdicts : List ℤ) → WasRefused (statusAnswer (verdictsAnswer s values given (length verdicts)))
+    → verdictsVerdicts s values given verdicts ≡ verdicts
+verdicts-kept s values given verdicts x =
+    kept (λ (a : Status). WasRefused (statusAnswer a)) (verdictsClimb s values given (length verdicts)) Refused _ verdicts _
+    (λ h e y. absurd (y refl)) x
+
+-- ---- operations
+
+fate-after : {s : List ℤ} {h : Header} {states : List ℤ} {o j n : ℕ} {state : ℤ}
+    → Fate s h states o j n state → After s h states o j n state
+fate-after {s} {h} {states} {o} {j} {n} (Goes e m q) = moved e (true-moves s h states o j n e m) q
+fate-after {s} {h} {states} {o} {j} {n} (Stays f q) = stayed (λ e t. f e (moves-true s h states o j n e t)) q
+
+module _ (s values given states : List ℤ) (p o : ℤ) where
+  abbrev facts : List ℤ
+  facts = assembled s (headerOf s) values given
+
+  abbrev verdicts : List ℤ
+  verdicts = verdictsOf s (headerOf s) facts
+
+  attempt-kept : (h : Header) (c : Count) → attemptedOver s h values given states (num p) (num o) ≡ c → WasRefused (countAnswer c)
+      → attemptedStatesOver s h values given states (num p) (num o) ≡ states
+  attempt-kept h (Is j) q x = absurd (x refl)
+  attempt-kept h (NoCount r) q x = refused-states s h _ _ states (num p) (num o) r q
+
+  pub operate-kept : WasRefused (countAnswer (operateAnswer s values given states p o)) → operateStates s values given states p o ≡ states
+  operate-kept x =
+      kept (λ (a : Count). WasRefused (countAnswer a)) (operateClimb s values given states p o) NoCount _ states _
+      (λ h e y. attempt-kept h (attemptedOver s h values given states (num p) (num o)) refl y) x
+
+  pub operated : (j : ℕ) → operateAnswer s values given states p o ≡ Is j → Operated s values given states p o j
+  operated j q =
+      by-all (λ (a : Count). a ≡ Is j → Operated s values given states p o j) (operateClimb s values given states p o) NoCount _
+      (λ r e a. let z : _≡_ {A = ℕ} 0 1 = cc in absurd (omega arith))
+      (λ h e a. past (made s values given states p o e) (worked _ _ refl (made s values given states p o e) refl ∙ q) comes)
+      q
+    where
+      past : Made s values given states p o → attemptedOver s (headerOf s) values given states (num p) (num o) ≡ Is j
+          → Comes s (headerOf s) facts verdicts states (num p) (num o) (attemptedOver s (headerOf s) values given states (num p) (num o))
+          → Operated s values given states p o j
+      past e a c = by-cases (attemptedOver s (headerOf s) values given states (num p) (num o)) c a
+        where
+          by-cases : (r : Count) → Comes s (headerOf s) facts verdicts states (num p) (num o) r → r ≡ Is j → Operated s values given states p o j
+          by-cases r (barred b) z = let y : _≡_ {A = ℕ} 0 1 = cc in absurd (omega arith)
+          by-cases r (untrue b t) z = let y : _≡_ {A = ℕ} 0 1 = cc in absurd (omega arith)
+          by-cases r (stuck b t c) z = let y : _≡_ {A = ℕ} 0 1 = cc in absurd (omega arith)
+          by-cases r (went b t i c) z =
+              let y : i ≡ j = cc in
+              let first = chosen-first s (headerOf s) states (num o) j (rw y at c) in
+              let changed = made-after s values given states p o e ∙ outcome-states s (headerOf s) facts verdicts states (num p) (num o) j a in
+              record {
+                persona = b;
+                holds = t;
+                exists = first .exists;
+                applies = first .applies;
+                earlier = first .earlier;
+                each = λ n l. rw changed (fate-after (fate (attempt-ready s values given states p o e .ready) j n l));
+              }
+
+-- ---- S2
+
+module _ (s : List ℤ) (e : ℤ) where
+  abbrev named : Header → Bool
+  named h = exists e (h .entities)
+
+  pub mask-reached : (m : ℕ) → reachableAnswer s e ≡ Is m → (q : ℕ) → Reached s (headerOf s) (num e) q ↔ (inMask m q ≡ true)
+  mask-reached m a q =
+      by-all (λ (c : Count). c ≡ Is m → Reached s (headerOf s) (num e) q ↔ (inMask m q ≡ true)) (reportClimb s named) NoCount _
+      (λ r p d. let z : _≡_ {A = ℕ} 0 1 = cc in absurd (omega arith))
+      (λ h p d. is (under-header s (reportRungs named) p))
+      a
+    where
+      is : reportClimb s named ≡ At (headerOf s) → Reached s (headerOf s) (num e) q ↔ (inMask m q ≡ true)
+      is p =
+          let r = reachable-is s e (climbed-at (opened s) (reportRungs named) refl p .sheet) (asked s named refl p .exist) in
+          let y : r .mask ≡ m = cc (sym (r .is) ∙ a) in
+          rw y at (r .each q)

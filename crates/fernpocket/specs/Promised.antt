@@ -1,0 +1,96 @@
+-- What the headline theorems (proofs/Headlines.antt) say, in 01's numbers. An answer here is `statusAnswer`, `countAnswer` or `walkAnswer` of
+-- a definition that the contract of an export cites, and a lent buffer is the definition that the contract gives for it.
+-- Assumes nothing.
+use mathlib.Core.Path.{_≡_}
+use mathlib.Core.Bool.{true, false}
+use mathlib.Core.List.{List, [], _∷_}
+use Prim.Native.Nat.{ℕ, zero, suc, _≤_, _<_}
+use lib.IntN.{ℤ, pos, natAbs}
+use lib.ListN.{length, take, getD}
+use Rattle.signed.specs.Words.{num, eqZ}
+use Rattle.answer.specs.declared.Answer.{Answer}
+use Rattle.answer.specs.Number.{doneAnswer}
+use Rattle.answer.specs.Answers.{statusAnswer, countAnswer, walkAnswer}
+use Rattle.layout.specs.declared.Header.{Header}
+use Rattle.layout.specs.Header.{headerOf}
+use Rattle.layout.specs.Tables.{operation, effect}
+use Rattle.records.specs.Accept.{checked}
+use Rattle.facts.specs.Assembled.{assembled}
+use Rattle.predicate.specs.Values.{truth}
+use Rattle.predicate.specs.Verdicts.{verdictsOf}
+use Rattle.operation.specs.Mask.{allowed}
+use Rattle.operation.specs.Outcomes.{moves, applicable}
+use Rattle.attempt.specs.Attempts.{precondition}
+use Rattle.listing.specs.Paths.{stepsOf, PathOf, terminal, paths, At}
+use Rattle.listing.specs.Calls.{laid}
+use Rattle.listing.specs.Lists.{Next, State}
+use Rattle.ladder.specs.Ladder.{exists}
+use Rattle.calls.specs.Evaluation.{operateStates}
+use Rattle.calls.specs.Flows.{runAnswer, runPath}
+use Rattle.calls.specs.Reports.{admissibleAnswer, canCauseAnswer}
+use Rattle.calls.specs.Lists.{publicCall}
+
+-- ---- answers
+
+-- the call went through: refusal 0, and value v
+pub record Went (a : Answer) (v : ℕ) : Type 0 where
+  pub refusal : a .refusal ≡ pos 0
+  pub value : a .value ≡ pos v
+
+-- the call was refused: the refusal is not 0
+abbrev pub WasRefused : Answer → Type 0
+WasRefused a = a .refusal ≡ pos 0 → ⊥
+
+-- ---- the list of paths
+
+-- "any accepted sheet, any flow in it and a path buffer at least as long as the flow has steps"; fernpocket_check answers refusal 0
+pub record Ready (s : List ℤ) (f : ℤ) (b : List ℕ) : Type 0 where
+  pub sheet : statusAnswer (checked s) .refusal ≡ pos 0
+  pub flow : exists f (headerOf s .flows) ≡ true
+  pub room : stepsOf s (headerOf s) (num f) ≤ length b
+
+-- "a first and then nexts until 13": the paths read off the buffer after a call and after each next that follows it, up to the answer with
+-- refusal 13, k calls at most. The answer's length says how many of the buffer's entries are the path
+unfoldable pub readTo13 : List ℤ → ℤ → ℕ → State → List (List ℕ)
+readTo13 s f zero t = []
+readTo13 s f (suc k) t =
+    elim (eqZ (walkAnswer (t .answer) .refusal) (pos 13)) [
+      | true ↦ []
+      | false ↦ take (natAbs (walkAnswer (t .answer) .length)) (t .buffer) ∷ readTo13 s f k (publicCall s f (t .buffer) Next)
+    ]
+
+-- a run took the routes of one of the flow's listed paths, which stands in the buffer with 0 past it; the value answered is its terminal, and
+-- the length its length
+pub record RanPath (s values given states : List ℤ) (f : ℤ) (b : List ℕ) : Type 0 where
+  pub path : List ℕ
+  pub is : PathOf s (headerOf s) (num f) path
+  pub listed : At (paths s (headerOf s) (num f)) path
+  pub left : runPath s values given states f b ≡ laid path b
+  pub value : walkAnswer (runAnswer s values given states f b) .value ≡ pos (terminal s (headerOf s) path)
+  pub long : walkAnswer (runAnswer s values given states f b) .length ≡ pos (length path)
+
+-- ---- operations
+
+-- the state of entity n after outcome j of operation o: where an effect of that outcome leads that starts from its present state, or, where
+-- none does, what it was
+pub data After (s : List ℤ) (h : Header) (states : List ℤ) (o j n : ℕ) (state : ℤ) : Type 0 where
+  moved : (e : ℕ) → moves s h states o j n e ≡ true → state ≡ pos (effect s h e .w2) → After s h states o j n state
+  stayed : ((e : ℕ) → moves s h states o j n e ≡ true → ⊥) → state ≡ getD states n (pos 0) → After s h states o j n state
+
+-- an operation went through with outcome j: the mask has the persona, the precondition is true, j is the first applicable outcome in declared
+-- order, and exactly its effects that start from the present states are applied
+pub record Operated (s values given states : List ℤ) (p o : ℤ) (j : ℕ) : Type 0 where
+  pub persona : allowed s (headerOf s) (num o) (num p) ≡ true
+  pub holds :
+      truth s (headerOf s) (assembled s (headerOf s) values given) (verdictsOf s (headerOf s) (assembled s (headerOf s) values given))
+      (precondition s (headerOf s) (num o)) ≡ true
+  pub exists : j < operation s (headerOf s) (num o) .w4
+  pub applies : applicable s (headerOf s) states (num o) j ≡ true
+  pub earlier : (i : ℕ) → i < j → applicable s (headerOf s) states (num o) i ≡ false
+  pub each : (n : ℕ) → n < headerOf s .entities
+      → After s (headerOf s) states (num o) j n (getD (operateStates s values given states p o) n (pos 0))
+
+-- S3a answers yes for entity n in state a, and S4 for its change to b, for persona p: refusal 0 and value 1
+pub record Foreseen (s : List ℤ) (p o : ℤ) (n a b : ℕ) : Type 0 where
+  pub admissible : countAnswer (admissibleAnswer s (pos n) (pos a) p o) ≡ doneAnswer 1 0
+  pub caused : countAnswer (canCauseAnswer s p (pos n) (pos a) (pos b)) ≡ doneAnswer 1 0
