@@ -1,7 +1,7 @@
 // The calls on facts and one operation: each takes its buffers from the tape, and writes a line.
-use crate::buffers::lend;
-use crate::buffers::past;
-use crate::lines;
+use script::buffers::lend;
+use script::buffers::past;
+use script::lines;
 
 fn assemble_on(s: &[i64], values: &mut [i64], given: &[i64], case: usize) {
     lines::status(case, evaluate::assemble(s, values, given));

@@ -1,7 +1,7 @@
 // The reports S1 to S5 and S7, which are lent no buffer: each writes a line.
-use crate::buffers::number;
-use crate::lines;
 use answer::Count;
+use script::buffers::number;
+use script::lines;
 
 // A report that takes one number.
 fn of_one(s: &[i64], call: usize, a: i64) -> Count {

@@ -1,15 +1,13 @@
 // Runs the calls of the script in the file stdin, and writes a line for each: the call's number, the answer, and every lent buffer.
 // A call: the number of what is called, its numbers, its buffers. 0, with the sheet as a buffer, sets the sheet of the calls after it.
-mod buffers;
 mod calls;
 mod figures;
-mod lines;
 mod walks;
 
-use buffers::number;
-use buffers::past_all;
-use buffers::size;
-use buffers::skip;
+use script::buffers::number;
+use script::buffers::past_all;
+use script::buffers::size;
+use script::buffers::skip;
 use signed::num;
 use tables::word_entry;
 

@@ -1,9 +1,9 @@
 // The calls on flows: each takes its buffers from the tape, and writes a line.
-use crate::buffers::lend;
-use crate::buffers::lend_path;
-use crate::buffers::past;
-use crate::lines;
 use answer::Walk;
+use script::buffers::lend;
+use script::buffers::lend_path;
+use script::buffers::past;
+use script::lines;
 
 fn first_on(s: &[i64], flow: i64, path: &mut [u16], case: usize) {
     lines::walk(case, flows::first(s, flow, path));

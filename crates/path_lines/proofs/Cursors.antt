@@ -2,9 +2,11 @@
 -- Assumes nothing.
 use Prim.Native.Nat.{ℕ, suc, _+_, _-_, _≤_, _<_}
 use mathlib.Core.Path.{_≡_, refl, sym, _∙_, ap}
+use mathlib.Core.Bool.{Bool, true, false}
 use mathlib.Core.List.{List, [], _++_, append-assoc, map}
 use mathlib.Core.Logic.{_⊎_, inl, inr, ⊎-elim}
 use native.Mathlib.Omega.{arith}
+use borrow.Author.Tests.{lt-ltb, lt-leb}
 use native.Mathlib.Decide.{decLt}
 use native.Mathlib.Numerals.{add-one}
 use lib.IntN.{ℤ}
@@ -16,13 +18,13 @@ use Rattle.answer.specs.declared.Walk.the-variants.{Path as Walked, Refused}
 use Rattle.layout.specs.declared.Header.{Header}
 use Rattle.records.proofs.FlowLaws.{flow-ok}
 use Rattle.listing.specs.Paths.{paths, path, terminal}
-use Rattle.listing.specs.Calls.{Lent, Following, following, walkOf, laid, firstAnswer, firstBuffer, answerOf, bufferOf, nextAnswer, nextBuffer}
+use Rattle.listing.specs.Calls.{Lent, Following, following, walkOf, laid, firstWalk, firstLaid, answerOf, bufferOf, nextWalk, nextLaid}
 use Rattle.listing.specs.Lists.{count}
 use Rattle.listing.proofs.AllPaths.{paths-some}
 use Rattle.listing.proofs.Buffers.{laid-same, length-laid}
 use Rattle.listing.proofs.Listing.{then-next, then-none}
 use Rattle.text.specs.Lines.{join}
-use Rattle.path_lines.specs.Output.{pathLine, most, flowLines, flowsLines, sheetLines}
+use Rattle.path_lines.specs.Output.{pathLine, most, flowLines, flowsLines, sheetLines, cutFlow, someCut, noticeOf, sheetNotice}
 use Rattle.path_lines.specs.Chunks.{flowRest, flowsRest, remaining, Ready, Holds, Stands, Starts, Follows}
 use Rattle.path_lines.specs.declared.Cursor.{Cursor}
 use Rattle.path_lines.proofs.Bounds.{path-short}
@@ -72,6 +74,25 @@ pub starts-all : {s : List ℤ} {h : Header} {b : List ℕ} {c : Cursor} {b′ :
 unfolding sheetLines
 starts-all {s} {h} t = let z : h .flows - 0 ≡ h .flows = omega arith in t .same ∙ rw z
 
+-- ---- whether a list was cut
+
+pub none-cut : (s : List ℤ) (h : Header) → false ≡ someCut s h 0
+unfolding someCut
+none-cut s h = refl
+
+flow-cut : (s : List ℤ) (h : Header) (f : ℕ) → most < count s h f → true ≡ someCut s h (suc f)
+unfolding someCut count
+flow-cut s h f l = let z : cutFlow s h f ≡ true = lt-ltb most (length (paths s h f)) l in rw z
+
+flow-whole : (s : List ℤ) (h : Header) (f : ℕ) → count s h f ≤ most → someCut s h f ≡ someCut s h (suc f)
+unfolding someCut count
+flow-whole s h f l = let z : cutFlow s h f ≡ false = lt-leb (suc most) (length (paths s h f)) (omega arith) in rw z
+
+-- past the last flow: what there is to say of the sheet
+pub told-all : {s : List ℤ} {h : Header} {c : Cursor} {b : List ℕ} → Stands s h c b → h .flows ≤ c .flow → noticeOf (c .cut) ≡ sheetNotice s h
+unfolding sheetNotice
+told-all {s} {h} {c} u l = let z : c .flow ≡ h .flows = omega (arith, u .within) in ap noticeOf (u .told ∙ ap (someCut s h) z)
+
 -- ---- the first path of a flow
 
 walked : (s : List ℤ) (h : Header) (p : List ℕ) (t n : ℕ) → walkOf s h p ≡ Walked t n → (t ≡ terminal s h p) × (n ≡ length p)
@@ -94,29 +115,36 @@ module _ {s : List ℤ} {h : Header} {b : List ℕ} (u : Ready s h b) where
       let z : length (path s h f k) ≤ length b = omega (arith, path-short s h (u .sheet) f k l m .few, u .room) in
       e ∙ laid-same (path s h f k) b b′ (sym (ap length e ∙ length-laid (path s h f k) b z))
 
-  pub start-past : {f : ℕ} {c : Cursor} → h .flows ≤ f → c ≡ record { flow = f; number = 0; terminal = 0; length = 0 } → Starts s h f b c b
-  start-past {f} {c} l e =
+  pub start-past : {f : ℕ} {c : Cursor} {x : Bool} → (f ≤ h .flows) × (x ≡ someCut s h f) → h .flows ≤ f
+      → c ≡ record { flow = f; number = 0; terminal = 0; length = 0; cut = x } → Starts s h f b c b
+  start-past {f} {c} {x} g l e =
       let here : c .flow ≡ f = ap (λ (x : Cursor). x .flow) e in
       record {
         flow = here;
         number = ap (λ (x : Cursor). x .number) e;
-        stands = record { ready = u; path = λ k. absurd (omega arith) };
+        stands =
+            record {
+              ready = u;
+              path = λ k. absurd (omega arith);
+              within = omega (arith, here, g .0);
+              told = ap (λ (y : Cursor). y .cut) e ∙ g .1 ∙ ap (someCut s h) (sym here);
+            };
         past = λ k. (ap (λ (x : Cursor). x .terminal) e, ap (λ (x : Cursor). x .length) e, refl);
         same = remaining-past s h c (omega arith) ∙ sym (flows-past s h f l);
       }
 
-  module _ {f : ℕ} (l : f < h .flows) {r : Walk} (e : r ≡ firstAnswer s h f) where
+  module _ {f : ℕ} (l : f < h .flows) {r : Walk} (e : r ≡ firstWalk s h f) where
     pub first-refused : {q : Refusal} → r ≡ Refused q → ⊥
-    unfolding firstAnswer
+    unfolding firstWalk
     first-refused {q} p = walked-refused s h (path s h f 0) q (sym e ∙ p)
 
-    pub start-first : {t n : ℕ} {b′ : List ℕ} → r ≡ Walked t n → b′ ≡ firstBuffer s h f b → length b′ ≡ length b
-        → Starts s h f b (record { flow = f; number = 0; terminal = t; length = n }) b′
-    unfolding firstAnswer firstBuffer count
-    start-first {t} {n} {b′} p q z =
+    pub start-first : {t n : ℕ} {x : Bool} {b′ : List ℕ} → x ≡ someCut s h f → r ≡ Walked t n → b′ ≡ firstLaid s h f b → length b′ ≡ length b
+        → Starts s h f b (record { flow = f; number = 0; terminal = t; length = n; cut = x }) b′
+    unfolding firstWalk firstLaid count
+    start-first {t} {n} {x} {b′} g p q z =
         let w = walked s h (path s h f 0) t n (sym e ∙ p) in
         let some : 0 < count s h f = paths-some s h (u .sheet) f l in
-        let c : Cursor = record { flow = f; number = 0; terminal = t; length = n } in
+        let c : Cursor = record { flow = f; number = 0; terminal = t; length = n; cut = x } in
         record {
           flow = refl;
           number = refl;
@@ -124,6 +152,8 @@ module _ {s : List ℤ} {h : Header} {b : List ℕ} (u : Ready s h b) where
               record {
                 ready = ready-same z;
                 path = λ k. record { there = some; early = omega arith; ends = w .0; size = w .1; holds = laid-again f 0 l some q };
+                within = omega arith;
+                told = g;
               };
           past = λ k. absurd (omega arith);
           same =
@@ -167,10 +197,11 @@ module _ {s : List ℤ} {h : Header} {c : Cursor} {b : List ℕ} (u : Stands s h
   pub follow-most : most ≤ c .number + 1 → {d : List ℕ} {c′ : Cursor} {b′ : List ℕ} → Starts s h (c .flow + 1) d c′ b′ → Follows s h c c′ b′
   follow-most m {d} {c′} {b′} t = follow-flow (inr (omega arith)) (rw (add-one (c .flow)) at t)
 
-  module _ {r : Walk} (e : r ≡ nextAnswer s h (c .flow) b) where
-    pub follow-last : {q : Refusal} → r ≡ Refused q → {d : List ℕ} {c′ : Cursor} {b′ : List ℕ} → Starts s h (c .flow + 1) d c′ b′ → Follows s h c c′ b′
-    unfolding nextAnswer answerOf
-    follow-last {q} p {d} {c′} {b′} t = follow-flow (inl (go (decLt (suc (c .number)) (count s h (c .flow))))) (rw (add-one (c .flow)) at t)
+  module _ {r : Walk} (e : r ≡ nextWalk s h (c .flow) b) where
+    -- refused: no path follows
+    last-count : {q : Refusal} → r ≡ Refused q → count s h (c .flow) ≤ suc (c .number)
+    unfolding nextWalk answerOf
+    last-count {q} p = go (decLt (suc (c .number)) (count s h (c .flow)))
       where
         go : Dec (suc (c .number) < count s h (c .flow)) → count s h (c .flow) ≤ suc (c .number)
         go (yes k) =
@@ -178,29 +209,47 @@ module _ {s : List ℤ} {h : Header} {c : Cursor} {b : List ℕ} (u : Stands s h
             absurd (walked-refused s h (path s h (c .flow) (suc (c .number))) q (sym (ap (answerOf s h) y) ∙ sym e ∙ p))
         go (no k) = omega arith
 
-    pub follow-next : c .number + 1 < most → {t n : ℕ} {b′ : List ℕ} → r ≡ Walked t n → b′ ≡ nextBuffer s h (c .flow) b → length b′ ≡ length b
-        → Follows s h c (record { flow = c .flow; number = c .number + 1; terminal = t; length = n }) b′
-    unfolding nextAnswer nextBuffer answerOf bufferOf
-    follow-next m {t} {n} {b′} p q z = rw (add-one (c .number)) (go (decLt (suc (c .number)) (count s h (c .flow))))
+    -- a path: one follows
+    next-count : {t n : ℕ} → r ≡ Walked t n → suc (c .number) < count s h (c .flow)
+    unfolding nextWalk answerOf
+    next-count p = go (decLt (suc (c .number)) (count s h (c .flow)))
       where
-        c′ : Cursor
-        c′ = record { flow = c .flow; number = suc (c .number); terminal = t; length = n }
-
-        go : Dec (suc (c .number) < count s h (c .flow)) → Follows s h c c′ b′
-        go (yes k) =
-            let y = here ∙ then-next lent (c .number) k in
-            let w = walked s h (path s h (c .flow) (suc (c .number))) t n (sym (ap (answerOf s h) y) ∙ sym e ∙ p) in
-            let x : b′ ≡ laid (path s h (c .flow) (suc (c .number))) b = q ∙ ap (λ (v : Following). bufferOf v b) y in
-            record {
-              stands =
-                  record {
-                    ready = ready-same (u .ready) z;
-                    path = λ v. record { there = k; early = omega arith; ends = w .0; size = w .1; holds = laid-again (u .ready) (c .flow) (suc (c .number)) l k x };
-                  };
-              same =
-                  takes ∙ ap (λ (v : List ℕ). pathLine s h (c .flow) (path s h (c .flow) (c .number)) ++ v) (sym (remaining-on s h c′ l));
-            }
+        go : Dec (suc (c .number) < count s h (c .flow)) → suc (c .number) < count s h (c .flow)
+        go (yes k) = k
         go (no k) =
             let y = here ∙ then-none lent (c .number) (omega (arith, held .there)) in
             let v : _≡_ {A = ℕ} 0 1 = cc (sym (ap (answerOf s h) y) ∙ sym e ∙ p) in
             absurd (omega arith)
+
+    pub follow-last : {q : Refusal} → r ≡ Refused q → {d : List ℕ} {c′ : Cursor} {b′ : List ℕ} → Starts s h (c .flow + 1) d c′ b′ → Follows s h c c′ b′
+    follow-last p t = follow-flow (inl (last-count p)) (rw (add-one (c .flow)) at t)
+
+    -- what `enter` asks for at the next flow: all paths were written, or one more follows the last of them
+    pub next-whole : {q : Refusal} → r ≡ Refused q → (c .flow + 1 ≤ h .flows) × (c .cut ≡ someCut s h (c .flow + 1))
+    next-whole p = (omega arith, u .told ∙ flow-whole s h (c .flow) (omega (arith, last-count p, held .early)) ∙ ap (someCut s h) (sym (add-one (c .flow))))
+
+    pub next-cut : {t n : ℕ} → r ≡ Walked t n → most ≤ c .number + 1 → (c .flow + 1 ≤ h .flows) × (true ≡ someCut s h (c .flow + 1))
+    next-cut p m = (omega arith, flow-cut s h (c .flow) (omega (arith, next-count p)) ∙ ap (someCut s h) (sym (add-one (c .flow))))
+
+    pub follow-next : c .number + 1 < most → {t n : ℕ} {b′ : List ℕ} → r ≡ Walked t n → b′ ≡ nextLaid s h (c .flow) b → length b′ ≡ length b
+        → Follows s h c (record { flow = c .flow; number = c .number + 1; terminal = t; length = n; cut = c .cut }) b′
+    unfolding nextWalk nextLaid answerOf bufferOf
+    follow-next m {t} {n} {b′} p q z =
+        let k = next-count p in
+        let c′ : Cursor = record { flow = c .flow; number = suc (c .number); terminal = t; length = n; cut = c .cut } in
+        let y = here ∙ then-next lent (c .number) k in
+        let w = walked s h (path s h (c .flow) (suc (c .number))) t n (sym (ap (answerOf s h) y) ∙ sym e ∙ p) in
+        let x : b′ ≡ laid (path s h (c .flow) (suc (c .number))) b = q ∙ ap (λ (v : Following). bufferOf v b) y in
+        let f : Follows s h c c′ b′ =
+        record {
+          stands =
+              record {
+                ready = ready-same (u .ready) z;
+                path = λ v. record { there = k; early = omega arith; ends = w .0; size = w .1; holds = laid-again (u .ready) (c .flow) (suc (c .number)) l k x };
+                within = u .within;
+                told = u .told;
+              };
+          same =
+              takes ∙ ap (λ (v : List ℕ). pathLine s h (c .flow) (path s h (c .flow) (c .number)) ++ v) (sym (remaining-on s h c′ l));
+        } in
+        rw (add-one (c .number)) f

@@ -4,31 +4,23 @@ use Prim.Native.Nat.{ℕ, _+_, _*_, _≤_, _<_}
 use mathlib.Core.Path.{_≡_, refl, sym, _∙_, ap}
 use mathlib.Core.Bool.{Bool, true, false, cond}
 use mathlib.Core.List.{List, [], _∷_}
-use mathlib.Core.Logic.{⊎-elim}
 use native.Mathlib.Omega.{arith}
 use native.Mathlib.Decide.{decLt}
 use borrow.Author.Tests.{le-leb, lt-leb}
 use lib.IntN.{ℤ, natAbs}
 use lib.ListN.{length, take, length-append}
-use Rattle.tables.proofs.Bools.{bool-cases}
 use Rattle.answer.specs.Number.{number, place}
 use Rattle.answer.specs.declared.Refusal.{Refusal}
 use Rattle.answer.specs.declared.Refusal.the-variants.{Header as BadHeader, Group, Record as BadRecord, Length, Missing, FactValue, FactAbsent, State, Persona, Precondition, NoOutcome, NotPath, LastPath, Line, NoRoom}
 use Rattle.answer.specs.declared.Count.{Count}
 use Rattle.answer.specs.declared.Count.the-variants.{Is, Refused as NoCount}
-use Rattle.answer.specs.declared.Status.{Status}
-use Rattle.answer.specs.declared.Status.the-variants.{Done, Refused}
 use Rattle.layout.specs.declared.Header.{Header}
-use Rattle.layout.specs.Header.{headerOf, goodHeader, records}
-use Rattle.layout.specs.Groups.{goodGroups}
-use Rattle.layout.proofs.Limits.{sized}
-use Rattle.records.specs.Accept.{checked, firstBad}
 use Rattle.records.specs.Accepted.{Accepted}
-use Rattle.records.proofs.Acceptance.{bad-header, bad-group, bad-record, no-fault}
-use Rattle.ladder.specs.declared.Opened.{Opened}
-use Rattle.ladder.specs.declared.Opened.the-variants.{Sheet, Refused as Shut}
-use Rattle.ladder.specs.Ladder.{opened}
-use Rattle.ladder.proofs.Climb.{sheet-open, opened-done, opened-not}
+use Rattle.ladder.specs.declared.Climbed.{Climbed}
+use Rattle.ladder.specs.declared.Climbed.the-variants.{At, Stopped}
+use Rattle.ladder.specs.Ladder.{opened, by}
+use Rattle.ladder.proofs.ClimbLaws.{opened-at}
+use Rattle.ladder.proofs.Small.{opened-low}
 use Rattle.decimal.specs.Decimal.{digits}
 use Rattle.decimal.proofs.Writing.{width-one, width-more, length-decimal}
 use Rattle.text.specs.Lines.{all, goodLine, linesOf, wordsOf}
@@ -146,19 +138,19 @@ pub record Entered (text : List ℕ) (left : List ℤ) (h : Header) (n : ℕ) : 
   pub sheet : Accepted (take n left) h
   pub room : n ≤ 8000
 
-entered-sheet : (text : List ℕ) (lent : List ℤ) (h : Header) (n m : ℕ) (o : Opened) → textCount text ≡ Is m → opened (wordsOf text) ≡ o → sheetEntrance m o ≡ Good h n → Entered text (wordsLeft text lent) h n
-unfolding sheetEntrance
-entered-sheet text lent h n m (Sheet g) c p e =
+entered-sheet : (text : List ℕ) (lent : List ℤ) (h : Header) (n m : ℕ) (o : Climbed) → textCount text ≡ Is m → opened (wordsOf text) ≡ o → sheetEntrance m o ≡ Good h n → Entered text (wordsLeft text lent) h n
+unfolding by
+entered-sheet text lent h n m (At g) c p e =
     let same : m ≡ n = cc in
     let head : g ≡ h = cc in
     let is : textCount text ≡ Is n = c ∙ ap Is same in
     let z = left-words text lent n is in
     record {
       words = z;
-      sheet = rw z (sheet-open (wordsOf text) {h = h} refl (p ∙ ap Sheet head) .sheet);
+      sheet = rw z (opened-at (wordsOf text) {h = h} refl (p ∙ ap At head) .sheet);
       room = counted text n is .few;
     }
-entered-sheet text lent h n m (Shut r) c p e = let z : _≡_ {A = ℕ} 0 1 = cc in absurd (omega arith)
+entered-sheet text lent h n m (Stopped r) c p e = let z : _≡_ {A = ℕ} 0 1 = cc in absurd (omega arith)
 
 pub entered : (text : List ℕ) (lent : List ℤ) {h : Header} {n : ℕ} {x : Entrance} {left : List ℤ} → x ≡ entrance text → left ≡ wordsLeft text lent → x ≡ Good h n → Entered text left h n
 unfolding entrance wordsEntrance
@@ -187,29 +179,11 @@ number-low LastPath = omega arith
 number-low (Line k) = omega arith
 number-low NoRoom = omega arith
 
--- the largest sheet has fewer records than that
-abbrev Low : Status → Type 0
-Low Done = Unit {0}
-Low (Refused r) = place r < 100000
-
-checked-low : (s : List ℤ) → Low (checked s)
-checked-low s = ⊎-elim held (λ p. rw (bad-header s p) (omega arith)) (bool-cases (goodHeader s))
-  where
-    placed : goodHeader s ≡ true → goodGroups s (headerOf s) ≡ true → Dec (firstBad s (headerOf s) < records (headerOf s)) → Low (checked s)
-    placed p q (yes l) = rw (bad-record s p q l) (omega (arith, sized s p .limits))
-    placed p q (no n) = rw (no-fault s p q (omega arith)) tt
-
-    held : goodHeader s ≡ true → Low (checked s)
-    held p = ⊎-elim (λ q. placed p q (decLt (firstBad s (headerOf s)) (records (headerOf s)))) (λ q. rw (bad-group s p q) (omega arith)) (bool-cases (goodGroups s (headerOf s)))
-
-opened-low : (s : List ℤ) (r : Refusal) (t : Status) → checked s ≡ t → Low t → opened s ≡ Shut r → place r < 100000
-opened-low s r Done e k p = let z : _≡_ {A = ℕ} 0 1 = cc (sym (opened-done s e) ∙ p) in absurd (omega arith)
-opened-low s r (Refused q) e k p = let z : q ≡ r = cc (sym (opened-not s q e) ∙ p) in rw (← z) k
-
-sheet-low : (s : List ℤ) (n : ℕ) (r : Refusal) (o : Opened) → opened s ≡ o → sheetEntrance n o ≡ Bad r → place r < 100000
-unfolding sheetEntrance
-sheet-low s n r (Sheet h) p e = let z : _≡_ {A = ℕ} 0 1 = cc in absurd (omega arith)
-sheet-low s n r (Shut q) p e = let z : q ≡ r = cc in opened-low s r (checked s) refl (checked-low s) (p ∙ ap Shut z)
+-- and so are their places
+sheet-low : (s : List ℤ) (n : ℕ) (r : Refusal) (o : Climbed) → opened s ≡ o → sheetEntrance n o ≡ Bad r → place r < 100000
+unfolding by
+sheet-low s n r (At h) p e = let z : _≡_ {A = ℕ} 0 1 = cc in absurd (omega arith)
+sheet-low s n r (Stopped q) p e = let z : q ≡ r = cc in opened-low s (p ∙ ap Stopped z)
 
 text-low : (text : List ℕ) (r : Refusal) → textCount text ≡ NoCount r → place r < 100000
 unfolding judged linesOf
@@ -249,14 +223,3 @@ refused-short r l =
       number-size n 1 false (omega (arith, number-low r)),
       number-size k 4 true (omega arith),
     )
-
--- ---- the ways out of `judge_words`
-
-module _ (s : List ℤ) (n : ℕ) {x : Opened} (e : x ≡ opened s) where
-  pub judged-good : {h : Header} → x ≡ Sheet h → Good h n ≡ sheetEntrance n (opened s)
-  unfolding sheetEntrance
-  judged-good p = rw (sym e ∙ p, sheetEntrance)
-
-  pub judged-bad : {r : Refusal} → x ≡ Shut r → Bad r ≡ sheetEntrance n (opened s)
-  unfolding sheetEntrance
-  judged-bad p = rw (sym e ∙ p, sheetEntrance)

@@ -10,7 +10,8 @@ use Rattle.layout.specs.declared.Header.{Header}
 use Rattle.text.specs.Lines.{join}
 use Rattle.path_lines.specs.declared.Entrance.the-variants.{Good, Bad}
 use Rattle.path_lines.specs.declared.Cursor.{Cursor}
-use Rattle.path_lines.specs.Output.{sheetLines, refusedLine, entrance, wordsLeft, written, output}
+use Rattle.path_lines.specs.declared.Notice.the-variants.{Refused as SaysRefused}
+use Rattle.path_lines.specs.Output.{sheetLines, refusedLine, entrance, wordsLeft, written, output, sheetNotice, noticed, said}
 use Rattle.path_lines.specs.Chunks.{remaining, Series, done, more}
 use Rattle.path_lines.proofs.Cursors.{remaining-past}
 use Rattle.path_lines.proofs.Opening.{entered}
@@ -35,3 +36,13 @@ output-chunks text lent {h} e p q t =
 pub output-refused : (text : List ℕ) {r : Refusal} → entrance text ≡ Bad r → refusedLine r ≡ output text
 unfolding output written
 output-refused text e = rw (e, written)
+
+-- what is said of a text on standard error: of a sheet, and on a refusal
+pub said-sheet : (text : List ℕ) (lent : List ℤ) {h : Header} {n : ℕ} {left : List ℤ} → entrance text ≡ Good h n → left ≡ wordsLeft text lent
+    → sheetNotice (take n left) h ≡ said text
+unfolding said noticed
+said-sheet text lent {h} e p = ap (λ (w : List ℤ). sheetNotice w h) (entered text lent refl p e .words) ∙ rw (e, noticed)
+
+pub said-refused : (text : List ℕ) {r : Refusal} → entrance text ≡ Bad r → SaysRefused ≡ said text
+unfolding said noticed
+said-refused text e = rw (e, noticed)

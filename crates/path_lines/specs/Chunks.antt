@@ -11,7 +11,7 @@ use Rattle.listing.specs.Paths.{paths, path, terminal}
 use Rattle.listing.specs.Calls.{laid}
 use Rattle.listing.specs.Lists.{count}
 use Rattle.text.specs.Lines.{join}
-use Rattle.path_lines.specs.Output.{pathLine, most, flowsLines}
+use Rattle.path_lines.specs.Output.{pathLine, most, flowsLines, someCut}
 use Rattle.path_lines.specs.declared.Cursor.{Cursor}
 
 -- the lines of a flow from path k on
@@ -40,10 +40,12 @@ pub record Holds (s : List ℤ) (h : Header) (f k : ℕ) (t n : ℕ) (b : List �
   pub size : n ≡ length (path s h f k)
   pub holds : b ≡ laid (path s h f k) b
 
--- a cursor that is not past the last flow names the path that stands in the buffer
+-- a cursor that is not past the last flow names the path that stands in the buffer; it knows whether a list before it was cut
 pub record Stands (s : List ℤ) (h : Header) (c : Cursor) (b : List ℕ) : Type 0 where
   pub ready : Ready s h b
   pub path : c .flow < h .flows → Holds s h (c .flow) (c .number) (c .terminal) (c .length) b
+  pub within : c .flow ≤ h .flows
+  pub told : c .cut ≡ someCut s h (c .flow)
 
 -- a cursor at path 0 of flow f, where b was lent: the lines of the flows from there on remain. Past the last flow the buffer is left alone
 pub record Starts (s : List ℤ) (h : Header) (f : ℕ) (b : List ℕ) (c : Cursor) (b′ : List ℕ) : Type 0 where

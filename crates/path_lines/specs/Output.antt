@@ -1,9 +1,9 @@
 -- 01, "Text of a sheet": what the program writes for a text. A line is text's: decimals parted by one tab, ended by LF.
 -- Assumes nothing.
 use Prim.Native.Nat.{ℕ, zero, suc}
-use mathlib.Core.Bool.{true, false}
+use mathlib.Core.Bool.{Bool, true, false, cond}
 use mathlib.Core.List.{List, [], _∷_, _++_, map}
-use lib.Dec.{leb}
+use lib.Dec.{leb, ltb}
 use lib.IntN.{ℤ, pos}
 use lib.ListN.{length, take}
 use Rattle.answer.specs.Number.{number, place}
@@ -13,13 +13,14 @@ use Rattle.answer.specs.declared.Count.{Count}
 use Rattle.answer.specs.declared.Count.the-variants.{Is, Refused as NoCount}
 use Rattle.layout.specs.declared.Header.{Header}
 use Rattle.listing.specs.Paths.{paths, terminal}
-use Rattle.ladder.specs.declared.Opened.{Opened}
-use Rattle.ladder.specs.declared.Opened.the-variants.{Sheet, Refused as Shut}
-use Rattle.ladder.specs.Ladder.{opened}
+use Rattle.ladder.specs.declared.Climbed.{Climbed}
+use Rattle.ladder.specs.Ladder.{opened, by}
 use Rattle.text.specs.Lines.{join, line, goodLine, linesOf, wordsOf}
 use Rattle.text.specs.Calls.{judged, filled}
 use Rattle.path_lines.specs.declared.Entrance.{Entrance}
 use Rattle.path_lines.specs.declared.Entrance.the-variants.{Good, Bad}
+use Rattle.path_lines.specs.declared.Notice.{Notice}
+use Rattle.path_lines.specs.declared.Notice.the-variants.{Nothing, Cut, Refused as SaysRefused}
 
 -- a line of numbers
 abbrev pub numbersLine : List ℕ → List ℕ
@@ -35,6 +36,15 @@ most = 10000
 
 unfoldable pub flowLines : List ℤ → Header → ℕ → List ℕ
 flowLines s h f = join (map (pathLine s h f) (take most (paths s h f)))
+
+-- a flow with more paths than that: its list is cut
+abbrev pub cutFlow : List ℤ → Header → ℕ → Bool
+cutFlow s h f = ltb most (length (paths s h f))
+
+-- some one of the first n flows
+unfoldable pub someCut : List ℤ → Header → ℕ → Bool
+someCut s h zero = false
+someCut s h (suc n) = cond (cutFlow s h n) true (someCut s h n)
 
 -- the lines of the n flows from f on
 unfoldable pub flowsLines : List ℤ → Header → ℕ → ℕ → List ℕ
@@ -63,9 +73,8 @@ textCount text =
     elim (leb (length text) longest) [ true ↦ judged goodLine (linesOf text) (length (wordsOf text)) | false ↦ NoCount NoRoom ]
 
 -- the text's words are checked as a sheet: its header and its number of words, or the first refusal
-unfoldable pub sheetEntrance : ℕ → Opened → Entrance
-sheetEntrance n (Sheet h) = Good h n
-sheetEntrance n (Shut r) = Bad r
+abbrev pub sheetEntrance : ℕ → Climbed → Entrance
+sheetEntrance n o = by o Bad (λ h. Good h n)
 
 unfoldable pub wordsEntrance : Count → List ℤ → Entrance
 wordsEntrance (Is n) words = sheetEntrance n (opened words)
@@ -85,3 +94,17 @@ written words (Bad r) = refusedLine r
 
 unfoldable pub output : List ℕ → List ℕ
 output text = written (wordsOf text) (entrance text)
+
+-- what it says on standard error, where standard output took all of that: a line on a refusal, and where some flow's list was cut
+abbrev pub noticeOf : Bool → Notice
+noticeOf cut = cond cut Cut Nothing
+
+unfoldable pub sheetNotice : List ℤ → Header → Notice
+sheetNotice s h = noticeOf (someCut s h (h .flows))
+
+unfoldable pub noticed : List ℤ → Entrance → Notice
+noticed words (Good h n) = sheetNotice words h
+noticed words (Bad r) = SaysRefused
+
+unfoldable pub said : List ℕ → Notice
+said text = noticed (wordsOf text) (entrance text)

@@ -7,14 +7,14 @@ ghost use lib.ListN.{length, take};
 ghost use lib.Seq.{sets};
 ghost use Rattle.answer.specs.Number.{place};
 ghost use Rattle.ladder.specs.Ladder.{opened};
-ghost use Rattle.path_lines.specs.Output.{numbersLine, sheetLines, refusedLine, sheetEntrance, entrance, wordsLeft};
+ghost use Rattle.path_lines.specs.Output.{numbersLine, sheetLines, refusedLine, sheetEntrance, entrance, wordsLeft, someCut, noticeOf};
 ghost use Rattle.path_lines.specs.Steps.{endingOf, numberField, refusedField};
 ghost use Rattle.path_lines.specs.Chunks.{remaining, Ready, Stands, Starts, Follows, Chunk};
 use answer::Count;
 use answer::Refusal;
 use answer::Walk;
 use answer::signed;
-use ladder::Opened;
+use ladder::Climbed;
 use layout::Flow;
 use layout::Header;
 
@@ -39,6 +39,16 @@ pub struct Cursor {
     pub number: usize,
     pub terminal: usize,
     pub length: usize,
+    // Whether the list of a flow before this one was cut.
+    pub cut: bool,
+}
+
+// What there is to say on standard error.
+pub enum Notice {
+    Nothing,
+    Refused,
+    Cut,
+    Unwritten,
 }
 
 // How many bytes of a chunk were written, and where to go on.
@@ -132,8 +142,8 @@ fn judge_words(words: &[i64], n: usize) -> Entrance
     ensures { λ r. ⌜ r ≡ sheetEntrance n (opened (now (words .entry))) ⌝ }
 {
     match ladder::open_sheet(words) {
-        Opened::Sheet(h) => Entrance::Good(h, n),
-        Opened::Refused(r) => Entrance::Bad(r),
+        Climbed::Stopped(r) => Entrance::Bad(r),
+        Climbed::At(h) => Entrance::Good(h, n),
     }
 }
 
@@ -152,8 +162,9 @@ pub fn open_text(text: &[u8], words: &mut [i64]) -> Entrance
 }
 
 // At the first path of a flow, or past the last flow.
-fn enter(s: &[i64], h: Header, flow: usize, path: &mut [u16]) -> Cursor
+fn enter(s: &[i64], h: Header, flow: usize, path: &mut [u16], cut: bool) -> Cursor
     requires { ⌜ Ready (now s) h (now path) ⌝ }
+    requires { ⌜ (flow ≤ h .flows) × (cut ≡ someCut (now s) h flow) ⌝ }
     ensures { λ c. ⌜ Starts (now (s .entry)) h flow (now (path .entry)) c (now (path .exit)) ⌝ }
 {
     if h.flows <= flow {
@@ -162,6 +173,7 @@ fn enter(s: &[i64], h: Header, flow: usize, path: &mut [u16]) -> Cursor
             number: 0,
             terminal: 0,
             length: 0,
+            cut,
         };
     }
     match listing::first(s, h, Flow(flow), path) {
@@ -170,12 +182,14 @@ fn enter(s: &[i64], h: Header, flow: usize, path: &mut [u16]) -> Cursor
             number: 0,
             terminal,
             length,
+            cut,
         },
         Walk::Refused(_) => Cursor {
             flow,
             number: 0,
             terminal: 0,
             length: 0,
+            cut,
         },
     }
 }
@@ -185,10 +199,10 @@ pub fn start(s: &[i64], h: Header, path: &mut [u16]) -> Cursor
     requires { ⌜ Ready (now s) h (now path) ⌝ }
     ensures { λ c. ⌜ Starts (now (s .entry)) h 0 (now (path .entry)) c (now (path .exit)) × (remaining (now (s .entry)) h c ≡ sheetLines (now (s .entry)) h) ⌝ }
 {
-    enter(s, h, 0, path)
+    enter(s, h, 0, path, false)
 }
 
-// At the path that follows in the flow, or at the next flow's first one.
+// At the path that follows in the flow, or at the next flow's first one. A path that follows the last that is written is one too many.
 fn advance(s: &[i64], h: Header, cursor: Cursor, path: &mut [u16]) -> Cursor
     requires { ⌜ Stands (now s) h cursor (now path) ⌝ }
     requires { ⌜ cursor .flow < h .flows ⌝ }
@@ -196,17 +210,21 @@ fn advance(s: &[i64], h: Header, cursor: Cursor, path: &mut [u16]) -> Cursor
 {
     let flow = cursor.flow;
     let number = cursor.number + 1;
-    if MOST <= number {
-        return enter(s, h, flow + 1, path);
-    }
+    let cut = cursor.cut;
     match listing::next(s, h, Flow(flow), path) {
-        Walk::Path { terminal, length } => Cursor {
-            flow,
-            number,
-            terminal,
-            length,
-        },
-        Walk::Refused(_) => enter(s, h, flow + 1, path),
+        Walk::Path { terminal, length } => {
+            if MOST <= number {
+                return enter(s, h, flow + 1, path, true);
+            }
+            Cursor {
+                flow,
+                number,
+                terminal,
+                length,
+                cut,
+            }
+        }
+        Walk::Refused(_) => enter(s, h, flow + 1, path, cut),
     }
 }
 
@@ -231,4 +249,11 @@ pub fn fill(s: &[i64], h: Header, cursor: Cursor, path: &mut [u16], out: &mut [u
         written: n,
         cursor: c,
     }
+}
+
+// What there is to say when the lines have been written, by whether a flow's list was cut.
+pub fn notice_of(cut: bool) -> Notice
+    ensures { λ n. ⌜ n ≡ noticeOf cut ⌝ }
+{
+    if cut { Notice::Cut } else { Notice::Nothing }
 }

@@ -1,7 +1,11 @@
-// A script for the programs that run cases: numbers from text, decimals parted by any other byte. `<` and `>` stand for the least and the
-// greatest word, `#` starts a comment.
+// A script for the programs that run cases: numbers from text, decimals parted by any other byte, onto a tape. `<` and `>` stand for the
+// least and the greatest word, `#` starts a comment. `buffers` takes the cases from the tape, `lines` writes what came of them.
 ghost use Prim.Native.Nat.{_≤_};
 ghost use lib.ListN.{length};
+
+pub mod buffers;
+pub mod lines;
+
 use signed::to_word;
 
 // What has been read of the number, or the comment, at hand.

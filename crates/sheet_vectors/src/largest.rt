@@ -1,5 +1,5 @@
 // The largest sheet: every table has its largest count, and every record is good.
-use crate::sheets::put;
+use script::buffers::put;
 use signed::to_word;
 
 const HEADER: [i64; 16] = [

@@ -6,18 +6,18 @@ mod largest;
 mod sheets;
 
 use answer::Status;
+use script::buffers::put;
+use script::lines;
 use sheets::CASES;
 use sheets::FIRST;
 use signed::num;
 use tables::word_entry;
 
 fn line(case: usize, number: usize, place: usize) {
-    io::print_decimal(1, case as u64);
-    io::write_all(1, b"\t");
-    io::print_decimal(1, number as u64);
-    io::write_all(1, b"\t");
-    io::print_decimal(1, place as u64);
-    io::write_all(1, b"\n");
+    lines::number(case);
+    lines::field(number);
+    lines::field(place);
+    lines::end();
 }
 
 fn show(case: usize, status: Status) {
@@ -80,7 +80,7 @@ fn run_all(tape: &[i64], end: usize) -> usize
 fn run_changed(tape: &[i64], i: usize, v: i64, case: usize) {
     let mut words = [0i64; 152];
     sheets::lay_first(tape, &mut words);
-    sheets::put(&mut words, i, v);
+    put(&mut words, i, v);
     judge(case, &words, FIRST);
 }
 

@@ -1,6 +1,7 @@
 // The sheets that the cases start from, and changes to them.
 ghost use Prim.Native.Nat.{_+_, _≤_};
 use crate::largest;
+use script::buffers::put;
 use signed::num;
 use tables::word_entry;
 
@@ -10,12 +11,6 @@ pub const FIRST: usize = 152;
 pub const SECOND: usize = 1168;
 
 pub const CASES: usize = 1320;
-
-pub(crate) fn put(out: &mut [i64], i: usize, v: i64) {
-    if i < out.len() {
-        out[i] = v;
-    }
-}
 
 // Words of the tape, from `from` on, to the start of the sheet.
 fn copy(tape: &[i64], from: usize, n: usize, out: &mut [i64])

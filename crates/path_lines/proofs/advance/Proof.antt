@@ -1,5 +1,5 @@
 -- `path_lines::advance` meets its contract: the next path of the flow, or the next flow. Assumes nothing.
-use Rattle.path_lines.proofs.Cursors.{ready-lent, follow-most, follow-next, follow-last}
+use Rattle.path_lines.proofs.Cursors.{ready-lent, ready-same, follow-most, follow-next, follow-last, next-whole, next-cut}
 use native.Mathlib.Omega.{arith}
 use borrow.Author.Needs.{needs}
 use Rattle.path_lines.proofs.advance.Statement.{statement}
@@ -12,7 +12,13 @@ add-enter : tie.Need-add-enter
 add-enter c = search needs
 
 enter-requires : tie.Need-enter-requires
-enter-requires c κs = search needs
+enter-requires c κs =
+    let at-terminal = c .before .before .before in
+    let at-next = at-terminal .before .before .before .before in
+    let at-start = at-next .before .before .before .before in (
+      ready-same (at-start .pre .0 .ready) (at-next .next .kept .1 .1 .1 .0),
+      next-cut (at-start .pre .0) (at-start .pre .1) (at-next .next .ensures .0) (at-terminal .terminal .given .1) (c .before .if1 .taken),
+    )
 
 same-length : tie.Need-same-length
 same-length c = search needs
@@ -21,12 +27,12 @@ returns : tie.Need-returns
 returns c =
     let at-enter = c .before .before in
     let at-if1 = at-enter .before .before in
-    let at-start = at-if1 .before .before .before in
+    let at-start = at-if1 .before .before .before .before .before .before .before .before .before .before in
     follow-most (at-start .pre .0) (at-start .pre .1) (at-if1 .if1 .taken) (at-enter .enter .ensures)
 
 next-requires : tie.Need-next-requires
 next-requires c κs =
-    let at-start = c .before .before .before .before in
+    let at-start = c .before .before .before in
     ready-lent (at-start .pre .0 .ready) _ (at-start .pre .1)
 
 enum-known-terminal : tie.Need-enum-known-terminal
@@ -39,19 +45,24 @@ add-enter-2 : tie.Need-add-enter-2
 add-enter-2 c = search needs
 
 enter-requires-2 : tie.Need-enter-requires-2
-enter-requires-2 c κs = search needs
+enter-requires-2 c κs =
+    let at-next = c .before .before .before .before .before in
+    let at-start = at-next .before .before .before .before in (
+      ready-same (at-start .pre .0 .ready) (at-next .next .kept .1 .1 .1 .0),
+      next-whole (at-start .pre .0) (at-start .pre .1) (at-next .next .ensures .0) (c .before .enum-told .given .1),
+    )
 
 same-length-2 : tie.Need-same-length-2
 same-length-2 c =
-    let at-next = c .before .before .before .before .before in
+    let at-next = c .before .before .before .before .before .before in
     at-next .next .kept .1 .1 .1 .0
 
 returns-2 : tie.Need-returns-2
 returns-2 c =
-    let at-next = c .before .before .before .before .before in
+    let at-next = c .before .before .before .before .before .before in
     let at-if1 = at-next .before .before in
-    let at-start = at-if1 .before .before .before in
-    follow-next (at-start .pre .0) (at-start .pre .1) (at-next .next .ensures .0) (at-if1 .if1 .left) (c .before .terminal .given .1)
+    let at-start = at-if1 .before .before in
+    follow-next (at-start .pre .0) (at-start .pre .1) (at-next .next .ensures .0) (c .if1 .left) (c .before .before .terminal .given .1)
     (at-next .next .ensures .1) (at-next .next .kept .1 .1 .1 .0)
 
 same-length-3 : tie.Need-same-length-3
@@ -62,7 +73,7 @@ returns-3 c =
     let at-enter2 = c .before .before in
     let at-enum-told = at-enter2 .before .before in
     let at-next = at-enum-told .before .before .before .before in
-    let at-start = at-next .before .before .before .before .before in
+    let at-start = at-next .before .before .before .before in
     follow-last (at-start .pre .0) (at-start .pre .1) (at-next .next .ensures .0) (at-enum-told .enum-told .given .1) (at-enter2 .enter2 .ensures)
 
 pub advance-spec : {M : Type 1} → statement M
@@ -70,12 +81,12 @@ advance-spec =
     tie.close
     (tie.spec
     add-number
+    next-requires
+    enum-known-terminal
     add-enter
     enter-requires
     same-length
     returns
-    next-requires
-    enum-known-terminal
     enum-told
     add-enter-2
     enter-requires-2

@@ -8,12 +8,12 @@ use Rattle.path_lines.proofs.enter.Tie as tie
 returns : tie.Need-returns
 returns c =
     let at-start = c .before .before .before in
-    start-past (at-start .pre) (c .if1 .taken) refl
+    start-past (at-start .pre .0) (at-start .pre .1) (c .if1 .taken) refl
 
 first-requires : tie.Need-first-requires
 first-requires c κs =
     let at-start = c .before .before .before .before in
-    ready-lent (at-start .pre) _ (c .before .if1 .left)
+    ready-lent (at-start .pre .0) _ (c .before .if1 .left)
 
 enum-known-terminal : tie.Need-enum-known-terminal
 enum-known-terminal c = search needs
@@ -31,8 +31,8 @@ returns-2 c =
     let at-first = c .before .before .before .before .before in
     let at-if1 = at-first .before .before in
     let at-start = at-if1 .before .before .before in
-    start-first (at-start .pre) (at-if1 .if1 .left) (at-first .first .ensures .0) (c .before .terminal .given .1) (at-first .first .ensures .1)
-    (at-first .first .kept .1 .1 .1 .0)
+    start-first (at-start .pre .0) (at-if1 .if1 .left) (at-first .first .ensures .0) (at-start .pre .1 .1)
+    (c .before .terminal .given .1) (at-first .first .ensures .1) (at-first .first .kept .1 .1 .1 .0)
 
 same-length-2 : tie.Need-same-length-2
 same-length-2 c =
@@ -44,7 +44,7 @@ returns-3 c =
     let at-first = c .before .before .before .before in
     let at-if1 = at-first .before .before in
     let at-start = at-if1 .before .before .before in
-    absurd (first-refused (at-start .pre) (at-if1 .if1 .left) (at-first .first .ensures .0) (c .enum-told .given .1))
+    absurd (first-refused (at-start .pre .0) (at-if1 .if1 .left) (at-first .first .ensures .0) (c .enum-told .given .1))
 
 pub enter-spec : {M : Type 1} → statement M
 enter-spec =

@@ -1,11 +1,12 @@
 -- `path_lines::start` meets its contract. Assumes nothing.
-use Rattle.path_lines.proofs.Cursors.{starts-all}
+use Rattle.path_lines.proofs.Cursors.{starts-all, none-cut}
+use native.Mathlib.Omega.{arith}
 use borrow.Author.Needs.{needs}
 use Rattle.path_lines.proofs.start.Statement.{statement}
 use Rattle.path_lines.proofs.start.Tie as tie
 
 enter-requires : tie.Need-enter-requires
-enter-requires c κs = search needs
+enter-requires c κs = (c .before .before .pre, (omega arith, none-cut _ _))
 
 same-length : tie.Need-same-length
 same-length c = search needs

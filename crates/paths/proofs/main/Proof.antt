@@ -34,19 +34,41 @@ enum-known-h : tie.Need-enum-known-h
 enum-known-h c = search needs
 
 array-share-prefix-words : tie.Need-array-share-prefix-words
-array-share-prefix-words c = omega (arith, entered _ _ (c .before .before .before .before .open-text .ensures .0) (c .before .before .before .before .open-text .ensures .1) (c .before .h .given .1) .room, c .before .before .before .before .open-text .kept .1 .0, length-replicate {A = ℤ} 8000 (pos 0))
+array-share-prefix-words c =
+    let at-open-text = c .before .before .before .before in
+    omega (
+      arith,
+      entered _ _ (at-open-text .open-text .ensures .0) (at-open-text .open-text .ensures .1) (c .before .h .given .1) .room,
+      at-open-text .open-text .kept .1 .0,
+      length-replicate {A = ℤ} 8000 (pos 0),
+    )
 
 slice-aggregate-write-paths : tie.Need-slice-aggregate-write-paths
-slice-aggregate-write-paths c = sym (length-take-le _ _ (omega (arith, entered _ _ (c .before .before .before .before .before .open-text .ensures .0) (c .before .before .before .before .before .open-text .ensures .1) (c .before .before .h .given .1) .room)))
+slice-aggregate-write-paths c =
+    let at-h = c .before .before in
+    let at-open-text = at-h .before .before .before in
+    sym (length-take-le _ _
+    (omega (arith, entered _ _ (at-open-text .open-text .ensures .0) (at-open-text .open-text .ensures .1) (at-h .h .given .1) .room)))
 
 write-paths-requires : tie.Need-write-paths-requires
-write-paths-requires c κs = entered _ _ (c .before .before .before .before .before .open-text .ensures .0) (c .before .before .before .before .before .open-text .ensures .1) (c .before .before .h .given .1) .sheet
+write-paths-requires c κs =
+    let at-h = c .before .before in
+    let at-open-text = at-h .before .before .before in
+    entered _ _ (at-open-text .open-text .ensures .0) (at-open-text .open-text .ensures .1) (at-h .h .given .1) .sheet
+
+tell-requires : tie.Need-tell-requires
+tell-requires c κs = search needs
 
 enum-known-r : tie.Need-enum-known-r
 enum-known-r c = search needs
 
 write-refused-requires : tie.Need-write-refused-requires
-write-refused-requires c κs = entrance-low _ (c .before .before .before .before .open-text .ensures .0) (c .before .r .given .1)
+write-refused-requires c κs =
+    let at-open-text = c .before .before .before .before in
+    entrance-low _ (at-open-text .open-text .ensures .0) (c .before .r .given .1)
+
+tell-requires-2 : tie.Need-tell-requires-2
+tell-requires-2 c κs = search needs
 
 returns : tie.Need-returns
 returns c = search needs
@@ -69,7 +91,9 @@ main-spec =
     array-share-prefix-words
     slice-aggregate-write-paths
     write-paths-requires
+    tell-requires
     enum-known-r
     write-refused-requires
+    tell-requires-2
     returns
     returns-2)

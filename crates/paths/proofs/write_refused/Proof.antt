@@ -1,7 +1,8 @@
 -- `paths::write_refused` meets its contract. Assumes nothing.
 use Rattle.path_lines.proofs.Opening.{refused-short}
 use lib.Seq.{length-take-le}
-use mathlib.Core.Path.{sym}
+use mathlib.Core.Path.{refl, sym}
+use mathlib.Core.Logic.{inl, inr}
 use native.Mathlib.Omega.{arith}
 use borrow.Author.Needs.{needs}
 use Rattle.paths.proofs.write_refused.Statement.{statement}
@@ -14,19 +15,43 @@ slice-aggregate-refusal : tie.Need-slice-aggregate-refusal
 slice-aggregate-refusal c = search needs
 
 refusal-requires : tie.Need-refusal-requires
-refusal-requires c κs = (omega (arith, c .before .before .pre), omega (arith, refused-short (c .before .before .args .r) (c .before .before .pre), c .before .buffer .ensures))
+refusal-requires c κs =
+    let at-start = c .before .before in
+    (omega (arith, at-start .pre), omega (arith, refused-short (at-start .args .r) (at-start .pre), c .before .buffer .ensures))
 
 array-share-prefix-out : tie.Need-array-share-prefix-out
-array-share-prefix-out c = omega (arith, c .before .refusal .ensures .0, refused-short (c .before .before .before .before .args .r) (c .before .before .before .before .pre), c .before .refusal .kept .1 .0, c .before .before .before .buffer .ensures)
+array-share-prefix-out c =
+    let at-buffer = c .before .before .before in
+    let at-start = at-buffer .before in
+    omega (
+      arith,
+      c .before .refusal .ensures .0,
+      refused-short (at-start .args .r) (at-start .pre),
+      c .before .refusal .kept .1 .0,
+      at-buffer .buffer .ensures,
+    )
 
 slice-aggregate-write-all : tie.Need-slice-aggregate-write-all
-slice-aggregate-write-all c = sym (length-take-le _ _ (omega (arith, c .before .before .refusal .ensures .0, refused-short (c .before .before .before .before .before .args .r) (c .before .before .before .before .before .pre), c .before .before .refusal .kept .1 .0, c .before .before .before .before .buffer .ensures)))
+slice-aggregate-write-all c =
+    let at-refusal = c .before .before in
+    let at-buffer = at-refusal .before .before in
+    let at-start = at-buffer .before in
+    sym (length-take-le _ _ (omega (
+      arith,
+      at-refusal .refusal .ensures .0,
+      refused-short (at-start .args .r) (at-start .pre),
+      at-refusal .refusal .kept .1 .0,
+      at-buffer .buffer .ensures,
+    )))
 
 write-all-requires : tie.Need-write-all-requires
 write-all-requires c κs = search needs
 
 returns : tie.Need-returns
-returns c = search needs
+returns c = inr refl
+
+returns-2 : tie.Need-returns-2
+returns-2 c = inl refl
 
 pub write-refused-spec : {M : Type 1} → statement M
 write-refused-spec =
@@ -38,4 +63,5 @@ write-refused-spec =
     array-share-prefix-out
     slice-aggregate-write-all
     write-all-requires
-    returns)
+    returns
+    returns-2)

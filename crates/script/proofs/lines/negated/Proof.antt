@@ -4,8 +4,8 @@ use lib.IntN.{pos}
 use Rattle.signed.proofs.Bounds.{show-small}
 use Rattle.signed.proofs.Fit.{back}
 use borrow.Author.Needs.{needs}
-use Rattle.call_vectors.proofs.lines.negated.Statement.{statement}
-use Rattle.call_vectors.proofs.lines.negated.Tie as tie
+use Rattle.script.proofs.lines.negated.Statement.{statement}
+use Rattle.script.proofs.lines.negated.Tie as tie
 
 minus-requires : tie.Need-minus-requires
 minus-requires c κs = (show-small (pos 0) (omega arith), rw (back (c .fits .w)) (c .pre))

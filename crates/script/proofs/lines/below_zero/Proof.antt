@@ -1,8 +1,8 @@
 -- `lines::below_zero` is safe. Assumes nothing.
 use mathlib.Core.Path.{sym, _∙_}
 use borrow.Author.Needs.{needs}
-use Rattle.call_vectors.proofs.lines.below_zero.Statement.{statement}
-use Rattle.call_vectors.proofs.lines.below_zero.Tie as tie
+use Rattle.script.proofs.lines.below_zero.Statement.{statement}
+use Rattle.script.proofs.lines.below_zero.Tie as tie
 
 bounded-requires : tie.Need-bounded-requires
 bounded-requires c κs = search needs

@@ -1,8 +1,8 @@
 -- `buffers::past_all` is safe and ends. Assumes nothing.
 use Prim.Native.Nat.{_≤_, _-_}
 use borrow.Author.Needs.{needs}
-use Rattle.call_vectors.proofs.buffers.past_all.Statement.{statement}
-use Rattle.call_vectors.proofs.buffers.past_all.Tie as tie
+use Rattle.script.proofs.buffers.past_all.Statement.{statement}
+use Rattle.script.proofs.buffers.past_all.Tie as tie
 
 abbrev Inv-loop : tie.InvT-loop
 Inv-loop tape first n at₀ i₀ at i = i ≤ n

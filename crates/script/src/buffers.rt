@@ -6,7 +6,7 @@ use signed::num;
 use tables::word_entry;
 
 // The place n further on; one past every tape where that is far.
-pub(crate) fn skip(at: usize, n: usize) -> usize {
+pub fn skip(at: usize, n: usize) -> usize {
     if at < 65536 {
         if n < 65536 {
             return at + n;
@@ -16,7 +16,7 @@ pub(crate) fn skip(at: usize, n: usize) -> usize {
 }
 
 // Number k of the call at a place.
-pub(crate) fn number(tape: &[i64], at: usize, k: usize) -> i64 {
+pub fn number(tape: &[i64], at: usize, k: usize) -> i64 {
     word_entry(tape, skip(at, k))
 }
 
@@ -24,7 +24,7 @@ fn full(tape: &[i64], at: usize) -> bool {
     word_entry(tape, at) == -1
 }
 
-pub(crate) fn size(tape: &[i64], at: usize) -> usize {
+pub fn size(tape: &[i64], at: usize) -> usize {
     if full(tape, at) {
         num(word_entry(tape, skip(at, 1)))
     } else {
@@ -41,7 +41,7 @@ fn entry(tape: &[i64], at: usize, i: usize) -> i64 {
 }
 
 // The place after the buffer at a place.
-pub(crate) fn past(tape: &[i64], at: usize) -> usize {
+pub fn past(tape: &[i64], at: usize) -> usize {
     if full(tape, at) {
         skip(at, 3)
     } else {
@@ -50,7 +50,7 @@ pub(crate) fn past(tape: &[i64], at: usize) -> usize {
 }
 
 // The place after n buffers.
-pub(crate) fn past_all(tape: &[i64], first: usize, n: usize) -> usize {
+pub fn past_all(tape: &[i64], first: usize, n: usize) -> usize {
     let mut at = first;
     let mut i = 0;
     while i < n {
@@ -66,14 +66,15 @@ fn least(n: usize, room: usize) -> usize
     if n < room { n } else { room }
 }
 
-fn put(out: &mut [i64], i: usize, w: i64) {
+// Puts a word where there is room.
+pub fn put(out: &mut [i64], i: usize, w: i64) {
     if i < out.len() {
         out[i] = w;
     }
 }
 
 // Puts the entries of the buffer at a place to the start of `out`, as many as it has room for; answers how many.
-pub(crate) fn lend(tape: &[i64], at: usize, out: &mut [i64]) -> usize
+pub fn lend(tape: &[i64], at: usize, out: &mut [i64]) -> usize
     ensures { λ n. ⌜ (n ≤ length (now (out .exit))) × (n ≡ length (take n (now (out .exit)))) ⌝ }
 {
     let n = least(size(tape, at), out.len());
@@ -91,13 +92,31 @@ fn short(w: i64) -> u16 {
 }
 
 // As `lend`, for a path.
-pub(crate) fn lend_path(tape: &[i64], at: usize, out: &mut [u16]) -> usize
+pub fn lend_path(tape: &[i64], at: usize, out: &mut [u16]) -> usize
     ensures { λ n. ⌜ (n ≤ length (now (out .exit))) × (n ≡ length (take n (now (out .exit)))) ⌝ }
 {
     let n = least(size(tape, at), out.len());
     let mut i = 0;
     while i < n {
         out[i] = short(entry(tape, at, i));
+        i += 1;
+    }
+    n
+}
+
+fn byte(w: i64) -> u8 {
+    let n = num(w);
+    if n < 256 { n as u8 } else { 255 }
+}
+
+// As `lend`, for a text.
+pub fn lend_bytes(tape: &[i64], at: usize, out: &mut [u8]) -> usize
+    ensures { λ n. ⌜ (n ≤ length (now (out .exit))) × (n ≡ length (take n (now (out .exit)))) ⌝ }
+{
+    let n = least(size(tape, at), out.len());
+    let mut i = 0;
+    while i < n {
+        out[i] = byte(entry(tape, at, i));
         i += 1;
     }
     n

@@ -2,8 +2,8 @@
 use Prim.Native.Nat.{_≤_, _-_}
 use lib.ListN.{length}
 use borrow.Author.Needs.{needs}
-use Rattle.call_vectors.proofs.lines.path.Statement.{statement}
-use Rattle.call_vectors.proofs.lines.path.Tie as tie
+use Rattle.script.proofs.lines.path.Statement.{statement}
+use Rattle.script.proofs.lines.path.Tie as tie
 
 abbrev Inv-loop : tie.InvT-loop
 Inv-loop b i₀ i = i ≤ length b

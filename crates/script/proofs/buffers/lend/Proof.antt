@@ -4,8 +4,8 @@ use lib.Seq.{length-take-le}
 use Prim.Native.Nat.{_≤_, _-_}
 use lib.ListN.{length}
 use borrow.Author.Needs.{needs}
-use Rattle.call_vectors.proofs.buffers.lend.Statement.{statement}
-use Rattle.call_vectors.proofs.buffers.lend.Tie as tie
+use Rattle.script.proofs.buffers.lend.Statement.{statement}
+use Rattle.script.proofs.buffers.lend.Tie as tie
 
 abbrev Inv-loop : tie.InvT-loop
 Inv-loop tape at out₀ n i₀ out i = (i ≤ n) × (n ≤ length out) × (length out ≡ length out₀)

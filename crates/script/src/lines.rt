@@ -11,7 +11,8 @@ use signed::bounded;
 use signed::minus;
 use signed::num;
 
-fn number(n: usize) {
+// A line begins with its case's number.
+pub fn number(n: usize) {
     io::print_decimal(1, n as u64);
 }
 
@@ -39,12 +40,12 @@ fn word(w: i64) {
     }
 }
 
-pub(crate) fn field(n: usize) {
+pub fn field(n: usize) {
     io::write_all(1, b"\t");
     number(n);
 }
 
-pub(crate) fn end() {
+pub fn end() {
     io::write_all(1, b"\n");
 }
 
@@ -62,7 +63,7 @@ fn done(value: usize, length: usize) {
     field(length);
 }
 
-pub(crate) fn status(case: usize, s: Status) {
+pub fn status(case: usize, s: Status) {
     number(case);
     match s {
         Status::Done => done(0, 0),
@@ -70,7 +71,7 @@ pub(crate) fn status(case: usize, s: Status) {
     }
 }
 
-pub(crate) fn count(case: usize, c: Count) {
+pub fn count(case: usize, c: Count) {
     number(case);
     match c {
         Count::Is(n) => done(n, 0),
@@ -78,7 +79,7 @@ pub(crate) fn count(case: usize, c: Count) {
     }
 }
 
-pub(crate) fn walk(case: usize, w: Walk) {
+pub fn walk(case: usize, w: Walk) {
     number(case);
     match w {
         Walk::Path { terminal, length } => done(terminal, length),
@@ -92,7 +93,7 @@ fn gap(i: usize) {
     }
 }
 
-pub(crate) fn buffer(b: &[i64]) {
+pub fn buffer(b: &[i64]) {
     io::write_all(1, b"\t");
     let mut i = 0;
     while i < b.len() {
@@ -106,7 +107,7 @@ fn route(r: u16) {
     number(r as usize);
 }
 
-pub(crate) fn path(b: &[u16]) {
+pub fn path(b: &[u16]) {
     io::write_all(1, b"\t");
     let mut i = 0;
     while i < b.len() {
