@@ -1,52 +1,120 @@
-/* A desk: checks a sheet given as text on stdin, then performs an operation or runs a flow from the initial states,
- * and prints the answers.
+/* A desk: reads the text of a sheet from stdin, checks it, and then lists the paths of its flows, performs one operation or
+ * runs one flow from the initial states.
  *
  *   cc -Iinclude examples/c/desk.c target/staticlib/libfernpocket.a -o desk
+ *   ./desk operate 3 0 0=500000 1=1 2=1 < examples/escrow.txt
  *
- *   desk                                        check, and list each flow's first paths
- *   desk operate PERSONA OPERATION [FACT=VALUE...]
- *   desk run FLOW [FACT=VALUE...]
- *
- * Facts that are not named take their defaults.
+ * Facts that are not given take their defaults. Answers go to stdout. Whatever is wrong is said on stderr, and nothing is
+ * done then: the exit status is 1 where the library refuses, 2 where the command line or a file is at fault.
  */
 #include "fernpocket.h"
 
+#include <errno.h>
 #include <inttypes.h>
 #include <stdio.h>
 #include <stdlib.h>
 #include <string.h>
 
-enum { LARGEST = 30224, TEXT = 12 * LARGEST, PATHS = 10 };
-enum { FACTS = 128, ENTITIES = 32, STEPS = 256 };
+enum { LISTED = 10 }; /* paths of each flow */
 
-/* No text of so many words is longer than TEXT: one that fills the buffer is refused. */
-static uint8_t text[TEXT + 1];
-static int64_t sheet[LARGEST];
-static size_t sheet_len;
+static uint8_t text[FERNPOCKET_MOST_TEXT + 1]; /* one byte more, to see that a text is too long */
+static int64_t sheet[FERNPOCKET_MOST_WORDS];
+static int64_t values[FERNPOCKET_MOST_FACTS], given[FERNPOCKET_MOST_FACTS], states[FERNPOCKET_MOST_ENTITIES];
+static uint16_t path[FERNPOCKET_MOST_STEPS];
 
-/* Prints a refusal and tells whether there was one. */
-static int refused(const char *call, fernpocket_answer answer)
+static const char *const wrong[] = {
+    [FERNPOCKET_REFUSED_HEADER] = "the header or the sheet's length is wrong",
+    [FERNPOCKET_REFUSED_GROUP] = "the counts of a group's owners do not add up to the table's count",
+    [FERNPOCKET_REFUSED_RECORD] = "this record is bad (in the text: line place + 3, counted from 1)",
+    [FERNPOCKET_REFUSED_LENGTH] = "a slice has the wrong length",
+    [FERNPOCKET_REFUSED_MISSING] = "there is no such persona, operation, flow, entity, state, rule or node",
+    [FERNPOCKET_REFUSED_FACT_VALUE] = "this fact is given wrongly: its flag is not 0 or 1, or its value is outside min..max",
+    [FERNPOCKET_REFUSED_FACT_ABSENT] = "this fact is not given and has no default",
+    [FERNPOCKET_REFUSED_STATE] = "the state of this entity is not one of its states",
+    [FERNPOCKET_REFUSED_PERSONA] = "the persona may not perform the operation",
+    [FERNPOCKET_REFUSED_PRECONDITION] = "the operation's precondition is false",
+    [FERNPOCKET_REFUSED_NO_OUTCOME] = "no outcome of the operation applies to the present states",
+    [FERNPOCKET_REFUSED_NOT_PATH] = "the buffer does not begin with a path of the flow",
+    [FERNPOCKET_REFUSED_LAST_PATH] = "no path follows the one in the buffer",
+    [FERNPOCKET_REFUSED_LINE] = "this line is bad (line place + 1, counted from 1)",
+    [FERNPOCKET_REFUSED_NO_ROOM] = "the output is shorter than the result",
+};
+
+/* Hands an answer on. A refusal ends the program, so that no later line works with what was not answered. */
+static fernpocket_answer unrefused(const char *call, fernpocket_answer answer)
 {
-    if (answer.refusal != 0)
-        printf("%s: refused %" PRId64 " at %" PRId64 "\n", call, answer.refusal, answer.place);
-    return answer.refusal != 0;
+    if (answer.refusal != 0) {
+        int known = answer.refusal >= FERNPOCKET_REFUSED_HEADER && answer.refusal <= FERNPOCKET_REFUSED_NO_ROOM;
+        fprintf(stderr, "desk: %s: refused %" PRId64 " at %" PRId64 ": %s\n", call, answer.refusal, answer.place,
+                known ? wrong[answer.refusal] : "this program is older than the library");
+        exit(1);
+    }
+    return answer;
 }
 
-static const char *terminal(int64_t value)
+static void usage(void)
 {
-    static const char *const names[] = {"success", "failure", "escalation"};
-    return names[value];
+    fputs("usage: desk < SHEET                     check the sheet, list the first paths of each flow\n"
+          "       desk operate PERSONA OPERATION [FACT=VALUE...] < SHEET\n"
+          "       desk run FLOW [FACT=VALUE...] < SHEET\n"
+          "SHEET is a file, every other word in capitals a number. A sheet has no names: its personas, operations,\n"
+          "flows and facts are numbered from 0.\n",
+          stderr);
+    exit(2);
 }
 
-static void print_path(int64_t flow, fernpocket_answer answer, const uint16_t *path)
+/* The number that stands from `word` up to `end`. Names, empty words, other characters and numbers outside low..high end the
+ * program: strtoll alone would make a 0 of a name. */
+static int64_t number(const char *what, const char *word, const char *end, int64_t low, int64_t high)
 {
-    printf("flow %" PRId64 ", %s:", flow, terminal(answer.value));
+    const char *digits = word + (*word == '-');
+    char *stop;
+    errno = 0;
+    long long value = strtoll(word, &stop, 10);
+    if (*digits < '0' || *digits > '9' || stop != end || errno != 0 || value < low || value > high) {
+        fprintf(stderr, "desk: %s is \"%.*s\": it must be a whole number, %" PRId64 " to %" PRId64 "\n", what,
+                (int)(end - word), word, low, high);
+        exit(2);
+    }
+    return value;
+}
+
+/* A persona, an operation or a flow; the library says whether there is such a one. */
+static int64_t named(const char *what, const char *word)
+{
+    return number(what, word, word + strlen(word), 0, FERNPOCKET_LARGEST_NUMBER);
+}
+
+/* Takes the words FACT=VALUE. */
+static void give(char **words, size_t facts)
+{
+    for (; *words != NULL; words++) {
+        const char *equals = strchr(*words, '=');
+        if (equals == NULL) {
+            fprintf(stderr, "desk: \"%s\" is not of the form FACT=VALUE\n", *words);
+            exit(2);
+        }
+        size_t fact = (size_t)number("FACT", *words, equals, 0, FERNPOCKET_LARGEST_NUMBER);
+        if (fact >= facts || given[fact]) {
+            fprintf(stderr, "desk: fact %zu %s\n", fact, fact >= facts ? "is not in the sheet" : "is given twice");
+            exit(2);
+        }
+        values[fact] = number("VALUE", equals + 1, equals + strlen(equals), -(int64_t)FERNPOCKET_LARGEST_NUMBER,
+                              FERNPOCKET_LARGEST_NUMBER);
+        given[fact] = 1;
+    }
+}
+
+static void print_path(int64_t flow, fernpocket_answer answer)
+{
+    static const char *const terminals[] = {"success", "failure", "escalation"};
+    printf("flow %" PRId64 ", %s:", flow, terminals[answer.value]);
     for (int64_t i = 0; i < answer.length; i++)
         printf(" %d", (int)path[i]);
     printf("\n");
 }
 
-static void print_states(const int64_t *states, size_t entities)
+static void print_states(size_t entities)
 {
     printf("states:");
     for (size_t i = 0; i < entities; i++)
@@ -54,69 +122,59 @@ static void print_states(const int64_t *states, size_t entities)
     printf("\n");
 }
 
-static int usage(void)
+static void list(size_t sheet_len)
 {
-    fprintf(stderr, "usage: desk | desk operate PERSONA OPERATION [FACT=VALUE...] | desk run FLOW [FACT=VALUE...]\n");
-    return 2;
+    for (int64_t flow = 0; flow < sheet[FERNPOCKET_AT_FLOWS]; flow++) {
+        fernpocket_answer answer = fernpocket_first(sheet, sheet_len, flow, path, FERNPOCKET_MOST_STEPS);
+        for (int i = 0; i < LISTED && answer.refusal != FERNPOCKET_REFUSED_LAST_PATH; i++) {
+            print_path(flow, unrefused("list", answer));
+            answer = fernpocket_next(sheet, sheet_len, flow, path, FERNPOCKET_MOST_STEPS);
+        }
+    }
 }
 
 int main(int argc, char **argv)
 {
+    int operate = argc >= 4 && strcmp(argv[1], "operate") == 0, run = argc >= 3 && strcmp(argv[1], "run") == 0;
+    if (argc != 1 && !operate && !run)
+        usage();
+
     size_t text_len = fread(text, 1, sizeof text, stdin);
-    fernpocket_answer answer = fernpocket_read_text(text, text_len, sheet, LARGEST);
-    if (refused("read", answer))
-        return 1;
-    sheet_len = (size_t)answer.value;
-    if (refused("check", fernpocket_check(sheet, sheet_len)))
-        return 1;
-    printf("accepted: %zu words\n", sheet_len);
+    if (ferror(stdin) || text_len == sizeof text) {
+        fputs("desk: the sheet cannot be read, or is longer than the text of any sheet\n", stderr);
+        return 2;
+    }
+    size_t sheet_len = (size_t)unrefused("read", fernpocket_read_text(text, text_len, sheet, FERNPOCKET_MOST_WORDS)).value;
+    unrefused("check", fernpocket_check(sheet, sheet_len));
 
-    /* The sheet is accepted, so its counts are within their limits. */
-    size_t facts = (size_t)sheet[2], entities = (size_t)sheet[5];
-    int64_t flows = sheet[9];
-    int64_t values[FACTS] = {0}, given[FACTS] = {0}, states[ENTITIES];
-    uint16_t path[STEPS] = {0};
-    const int64_t *entity = sheet + 16 + 8 * (sheet[2] + sheet[3] + sheet[4]);
+    /* The sheet is accepted, so its counts are within the limits. The entities stand after facts, nodes and rules. */
+    size_t facts = (size_t)sheet[FERNPOCKET_AT_FACTS], entities = (size_t)sheet[FERNPOCKET_AT_ENTITIES];
+    int64_t before = sheet[FERNPOCKET_AT_FACTS] + sheet[FERNPOCKET_AT_NODES] + sheet[FERNPOCKET_AT_RULES];
+    const int64_t *entity = sheet + FERNPOCKET_HEADER_WORDS + FERNPOCKET_RECORD_WORDS * before;
     for (size_t i = 0; i < entities; i++)
-        states[i] = entity[8 * i + 1];
-
-    if (argc == 1) {
-        for (int64_t flow = 0; flow < flows; flow++) {
-            answer = fernpocket_first(sheet, sheet_len, flow, path, STEPS);
-            for (int i = 0; i < PATHS && answer.refusal == 0; i++) {
-                print_path(flow, answer, path);
-                answer = fernpocket_next(sheet, sheet_len, flow, path, STEPS);
-            }
-        }
-        return 0;
-    }
-
-    int operate = strcmp(argv[1], "operate") == 0, run = strcmp(argv[1], "run") == 0;
-    int named = operate ? 4 : 3;
-    if ((!operate && !run) || argc < named)
-        return usage();
-    for (int i = named; i < argc; i++) {
-        char *end;
-        unsigned long long fact = strtoull(argv[i], &end, 10);
-        if (*end != '=' || fact >= facts)
-            return usage();
-        values[fact] = strtoll(end + 1, NULL, 10);
-        given[fact] = 1;
-    }
+        states[i] = entity[FERNPOCKET_RECORD_WORDS * i + 1];
 
     if (operate) {
-        int64_t persona = strtoll(argv[2], NULL, 10), operation = strtoll(argv[3], NULL, 10);
-        answer = fernpocket_operate(sheet, sheet_len, values, facts, given, facts, states, entities, persona, operation);
-        if (refused("operate", answer))
-            return 1;
-        printf("outcome %" PRId64 "\n", answer.value);
+        int64_t persona = named("PERSONA", argv[2]), operation = named("OPERATION", argv[3]);
+        give(argv + 4, facts);
+        fernpocket_answer answer = fernpocket_operate(sheet, sheet_len, values, facts, given, facts, states, entities,
+                                                      persona, operation);
+        printf("outcome %" PRId64 "\n", unrefused("operate", answer).value);
+        print_states(entities);
+    } else if (run) {
+        int64_t flow = named("FLOW", argv[2]);
+        give(argv + 3, facts);
+        fernpocket_answer answer = fernpocket_run(sheet, sheet_len, values, facts, given, facts, states, entities, flow,
+                                                  path, FERNPOCKET_MOST_STEPS);
+        print_path(flow, unrefused("run", answer));
+        print_states(entities);
     } else {
-        int64_t flow = strtoll(argv[2], NULL, 10);
-        answer = fernpocket_run(sheet, sheet_len, values, facts, given, facts, states, entities, flow, path, STEPS);
-        if (refused("run", answer))
-            return 1;
-        print_path(flow, answer, path);
+        printf("accepted: %zu words\n", sheet_len);
+        list(sheet_len);
     }
-    print_states(states, entities);
+    if (fflush(stdout) != 0) {
+        fputs("desk: the answer cannot be written\n", stderr);
+        return 2;
+    }
     return 0;
 }

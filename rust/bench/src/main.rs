@@ -14,10 +14,10 @@ use std::env;
 use std::hint::black_box;
 use std::time::{Duration, Instant};
 
-/// The call on both sides; the library's is missing where the archive lacks it.
+/// The call on both sides.
 struct Case {
     name: &'static str,
-    library: Option<Box<dyn FnMut() -> [i64; 4]>>,
+    library: Box<dyn FnMut() -> [i64; 4]>,
     reference: Box<dyn FnMut() -> [i64; 4]>,
     /// How long the text is, for calls on text.
     bytes: usize,
@@ -25,7 +25,7 @@ struct Case {
 
 /// The best times of a call in nanoseconds.
 struct Times {
-    library: Option<f64>,
+    library: f64,
     reference: f64,
 }
 
@@ -76,9 +76,8 @@ fn main() {
         println!("| Call | Library, µs | Reference, µs | Ratio |");
         println!("|---|---:|---:|---:|");
         for (case, times) in cases {
-            let library = times.library.map_or("-".into(), |time| format!("{:.2}", time / 1e3));
-            let ratio = times.library.map_or("-".into(), |time| format!("{:.2}", time / times.reference));
-            println!("| {} | {library} | {:.2} | {ratio} |", case.name, times.reference / 1e3);
+            let ratio = times.library / times.reference;
+            println!("| {} | {:.2} | {:.2} | {ratio:.2} |", case.name, times.library / 1e3, times.reference / 1e3);
         }
         println!();
     }
@@ -89,8 +88,7 @@ fn main() {
     for (name, _, _, cases) in &table {
         for (case, times) in cases.iter().filter(|(case, _)| case.bytes > 0) {
             let speed = |time: f64| format!("{:.0}", case.bytes as f64 * 1e3 / time);
-            let library = times.library.map_or("-".into(), speed);
-            println!("| {} | {name} | {library} | {} |", case.name, speed(times.reference));
+            println!("| {} | {name} | {} | {} |", case.name, speed(times.library), speed(times.reference));
         }
     }
 
@@ -100,8 +98,8 @@ fn main() {
     println!("| Call | Library | Reference |");
     println!("|---|---:|---:|");
     for ((case, large), (_, small)) in whole.3.iter().zip(&eighth.3) {
-        let library = large.library.zip(small.library).map_or("-".into(), |(a, b)| format!("{:.2}", a / b));
-        println!("| {} | {library} | {:.2} |", case.name, large.reference / small.reference);
+        let growth = (large.library / small.library, large.reference / small.reference);
+        println!("| {} | {:.2} | {:.2} |", case.name, growth.0, growth.1);
     }
 
     println!("\n## Hard runs: each step performs one operation, whose precondition is one deep tree\n");
@@ -112,9 +110,8 @@ fn main() {
         let desk = Box::leak(Box::new(Desk::of(&hard_sheet(steps, nodes), 1)));
         let mut run = cases(desk).into_iter().find(|case| case.name == "run").expect("run is among the calls");
         let times = measure(&mut run, time);
-        let library = times.library.map_or("-".into(), |time| format!("{:.2}", time / 1e3));
-        let ratio = times.library.map_or("-".into(), |time| format!("{:.2}", time / times.reference));
-        println!("| {steps} | {nodes} | {library} | {:.2} | {ratio} |", times.reference / 1e3);
+        let ratio = times.library / times.reference;
+        println!("| {steps} | {nodes} | {:.2} | {:.2} | {ratio:.2} |", times.library / 1e3, times.reference / 1e3);
     }
 }
 
@@ -165,21 +162,16 @@ fn as_tables(words: &[i64]) -> Sheet {
 /// The best time of each side.
 fn measure(case: &mut Case, time: Duration) -> Times {
     let expected = (case.reference)();
-    if let Some(library) = &mut case.library {
-        assert_eq!(library(), expected, "{}", case.name);
-    }
+    assert_eq!((case.library)(), expected, "{}", case.name);
     // A round takes at least some tens of microseconds, so that the clock does not count.
     let mut calls = 1;
     while sample(&mut case.reference, calls) < 50e3 {
         calls *= 2;
     }
-    let mut best = Times { library: None, reference: f64::MAX };
+    let mut best = Times { library: f64::MAX, reference: f64::MAX };
     let start = Instant::now();
     while start.elapsed() < time {
-        if let Some(library) = &mut case.library {
-            let time = sample(library, calls) / calls as f64;
-            best.library = Some(best.library.unwrap_or(f64::MAX).min(time));
-        }
+        best.library = best.library.min(sample(&mut case.library, calls) / calls as f64);
         best.reference = best.reference.min(sample(&mut case.reference, calls) / calls as f64);
     }
     best
@@ -265,7 +257,7 @@ macro_rules! case {
                 Box::new(move || numbers!($call))
             }
         };
-        Case { name: $name, library: raw::present($name).then(|| make(true)), reference: make(false), bytes: $bytes }
+        Case { name: $name, library: make(true), reference: make(false), bytes: $bytes }
     }};
 }
 

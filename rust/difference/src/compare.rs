@@ -108,20 +108,18 @@ impl Comparer {
         if answer.refusal != 0 && (*buffers != before || answer.value != 0 || answer.length != 0) {
             return fault("a refused call left a trace", "reference", answer, buffers);
         }
-        if raw::present(call.name()) {
-            let mut left = before.clone();
-            let found = numbers(library(&mut left));
-            if found != answer {
-                return fault("the answers differ", "library", found, &left);
-            }
-            if left != *buffers {
-                return fault("the buffers differ", "library", found, &left);
-            }
-            let mut left = before.clone();
-            if let Some(found) = typed(&mut left) {
-                if found != answer || left != *buffers {
-                    return fault("the wrapper differs", "wrapper", found, &left);
-                }
+        let mut left = before.clone();
+        let found = numbers(library(&mut left));
+        if found != answer {
+            return fault("the answers differ", "library", found, &left);
+        }
+        if left != *buffers {
+            return fault("the buffers differ", "library", found, &left);
+        }
+        let mut left = before.clone();
+        if let Some(found) = typed(&mut left) {
+            if found != answer || left != *buffers {
+                return fault("the wrapper differs", "wrapper", found, &left);
             }
         }
         self.reached.count(call, answer.refusal);
@@ -210,8 +208,6 @@ pub fn four(result: Result<impl Numbers, Refusal>) -> Answer {
             let (value, length) = answer.value_and_length();
             Answer { refusal: 0, place: 0, value, length }
         }
-        Err(refusal) => {
-            Answer { refusal: refusal.reason.number() as i64, place: refusal.place as i64, value: 0, length: 0 }
-        }
+        Err(refusal) => Answer { refusal: refusal.number() as i64, place: refusal.place() as i64, value: 0, length: 0 },
     }
 }

@@ -1,8 +1,6 @@
 //! `difference SEED SECONDS [ROUND]`: compares for so long, or only the one round.
 
-use difference::calls::Call;
 use difference::compare::Comparer;
-use fernpocket::raw;
 use std::env;
 use std::process::ExitCode;
 use std::time::{Duration, Instant};
@@ -18,10 +16,6 @@ fn main() -> ExitCode {
         }
     };
     println!("seed {seed}, {seconds} seconds");
-    let missing: Vec<&str> = Call::ALL.map(Call::name).into_iter().filter(|name| !raw::present(name)).collect();
-    if !missing.is_empty() {
-        println!("not in the linked archive, so only the reference's: {}", missing.join(", "));
-    }
     let start = Instant::now();
     let mut shown = start;
     let mut comparer = Comparer::default();

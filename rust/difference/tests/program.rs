@@ -11,22 +11,30 @@ use std::process::{Command, Stdio};
 const TEXT: usize = 16_000;
 const PATHS: usize = 10_000;
 
-/// What the program writes for a text.
-fn written(text: &[u8]) -> String {
+/// What the program says on standard error: nothing, or one of these lines.
+const SILENT: &str = "";
+const REFUSED: &str = "paths: the text was refused: see the number and place\n";
+const CUT: &str = "paths: a flow has more than 10,000 paths: the rest were left out\n";
+const UNWRITTEN: &str = "paths: standard output could not be written\n";
+
+/// What the program writes for a text to standard output, where this is a pipe, and to standard error.
+fn written(text: &[u8], output: Stdio) -> (String, String) {
     let program = Path::new(env!("CARGO_MANIFEST_DIR")).join("../../target/bin/paths");
     let mut child = Command::new(&program)
         .stdin(Stdio::piped())
-        .stdout(Stdio::piped())
+        .stdout(output)
+        .stderr(Stdio::piped())
         .spawn()
         .unwrap_or_else(|error| panic!("{}: {error}; `rt check paths` builds it", program.display()));
     // The program reads no more than it takes, so the rest of a longer text may find the pipe closed.
     let _ = child.stdin.take().unwrap().write_all(text);
-    String::from_utf8(child.wait_with_output().unwrap().stdout).unwrap()
+    let output = child.wait_with_output().unwrap();
+    (String::from_utf8(output.stdout).unwrap(), String::from_utf8(output.stderr).unwrap())
 }
 
-/// What 01 says of it.
-fn expected(text: &[u8]) -> String {
-    let refused = |number: i64, place: i64| format!("refused\t{number}\t{place}\n");
+/// What 01 says of standard output, and what is said on standard error.
+fn expected(text: &[u8]) -> (String, &'static str) {
+    let refused = |number: i64, place: i64| (format!("refused\t{number}\t{place}\n"), REFUSED);
     if text.len() > TEXT {
         return refused(15, 0);
     }
@@ -41,6 +49,7 @@ fn expected(text: &[u8]) -> String {
         return refused(check.refusal, check.place);
     }
     let mut lines = String::new();
+    let mut said = SILENT;
     for flow in 0..words[9] {
         let mut path = vec![0u16; 256];
         let mut answer = reference::first(&words, flow, &mut path);
@@ -52,13 +61,18 @@ fn expected(text: &[u8]) -> String {
             lines += &format!("{flow}\t{}{routes}\n", answer.value);
             answer = reference::next(&words, flow, &mut path);
         }
+        if answer.refusal == 0 {
+            said = CUT;
+        }
     }
-    lines
+    (lines, said)
 }
 
 fn agree(text: &[u8]) -> String {
-    let (written, expected) = (written(text), expected(text));
-    assert!(written == expected, "for {:?}", String::from_utf8_lossy(&text[..text.len().min(400)]));
+    let ((written, said), (lines, line)) = (written(text, Stdio::piped()), expected(text));
+    let shown = String::from_utf8_lossy(&text[..text.len().min(400)]);
+    assert!(written == lines, "for {shown:?}");
+    assert_eq!(said, line, "on standard error, for {shown:?}");
     written
 }
 
@@ -70,17 +84,29 @@ fn text_of(words: &[i64]) -> Vec<u8> {
     text
 }
 
-/// So many branches, both routes of each to the next: 2 to that many paths.
-fn branches(count: i64) -> Vec<i64> {
+/// A sheet with one flow of exactly so many paths: a ladder of branches, both routes of each to the next, and before it a
+/// branch for each further bit of the number, to the rung from which that many paths are left, or on.
+fn flow_of(paths: usize) -> Vec<i64> {
+    let bits = (usize::BITS - 1 - paths.leading_zeros()) as usize;
+    let set: Vec<usize> = (0..bits).filter(|bit| paths >> bit & 1 == 1).collect();
+    let count = set.len() + bits;
+    let mut targets = Vec::new();
+    for (step, bit) in set.iter().enumerate() {
+        targets.push(Some(step + 1));
+        targets.push((*bit > 0).then(|| set.len() + bits - bit));
+    }
+    for step in set.len()..count {
+        let on = (step + 1 < count).then_some(step + 1);
+        targets.extend([on, on]);
+    }
+    let count = count as i64;
     let mut words = vec![1, 0, 0, count, 0, 0, 0, 0, 0, 1, count, 2 * count, 0, 0, 0, 0];
     let mut add = |record: [i64; 5]| words.extend(record.into_iter().chain([0; 3]));
     (0..count).for_each(|_| add([1, 1, 0, 0, 0]));
     add([0, count, 0, 0, 0]);
     (0..count).for_each(|step| add([1, step, 0, 2 * step, 2]));
-    for step in 0..count {
-        let on = if step + 1 < count { [0, step + 1, 0, 0, 0] } else { [1, 0, 0, 0, 0] };
-        add(on);
-        add(on);
+    for target in targets {
+        add(target.map_or([1, 0, 0, 0, 0], |step| [0, step as i64, 0, 0, 0]));
     }
     words
 }
@@ -117,8 +143,31 @@ fn texts_as_long_as_they_may_be_and_longer() {
 }
 
 #[test]
+fn the_stored_run() {
+    // The text and the output that `rt ci` compares: as long as a text may be, more than one buffer of output, two
+    // flows of which the first is cut. The output was made by the reference.
+    let text = include_bytes!("../../../crates/paths/stdin");
+    let lines = include_str!("../../../crates/paths/stdout");
+    assert_eq!(text.len(), TEXT);
+    assert!(lines.len() > 2 * 65_536);
+    assert!(expected(text) == (lines.to_string(), CUT));
+    agree(text);
+}
+
+#[test]
+fn output_that_is_not_taken() {
+    // A device that takes no byte: the paths of a sheet, and a refused line.
+    for text in [example::TEXT, ""] {
+        let full = std::fs::File::options().write(true).open("/dev/full").unwrap();
+        assert_eq!(written(text.as_bytes(), full.into()), (String::new(), UNWRITTEN.to_string()));
+    }
+}
+
+#[test]
 fn the_first_ten_thousand_paths() {
-    assert_eq!(agree(&text_of(&branches(13))).lines().count(), 8_192);
-    assert_eq!(agree(&text_of(&branches(14))).lines().count(), PATHS);
-    assert_eq!(agree(&text_of(&branches(60))).lines().count(), PATHS);
+    for (paths, said) in [(8_192, SILENT), (PATHS - 1, SILENT), (PATHS, SILENT), (PATHS + 1, CUT), (1 << 60, CUT)] {
+        let text = text_of(&flow_of(paths));
+        assert_eq!(expected(&text).1, said);
+        assert_eq!(agree(&text).lines().count(), paths.min(PATHS));
+    }
 }

@@ -1,10 +1,8 @@
 //! A short run of a fixed seed, which has to reach every refusal that 01 allows.
 
-use difference::calls::Call;
 use difference::compare::Comparer;
 use difference::generate;
 use difference::random::Random;
-use fernpocket::raw;
 
 const SEED: u64 = 20_250_101;
 const ROUNDS: u64 = 3200;
@@ -19,14 +17,6 @@ fn library_and_reference_agree() {
     }
     println!("{}", comparer.reached);
     assert_eq!(comparer.reached.gaps(), [], "calls that never gave a refusal that 01 lets them give");
-}
-
-/// An archive that lacks an export is compared as far as it goes, but only where FERNPOCKET_PARTIAL is set.
-#[test]
-fn every_export_is_linked() {
-    let missing: Vec<&str> = Call::ALL.map(Call::name).into_iter().filter(|name| !raw::present(name)).collect();
-    let partial = std::env::var_os("FERNPOCKET_PARTIAL").is_some();
-    assert!(partial || missing.is_empty(), "the linked libfernpocket.a lacks {missing:?}");
 }
 
 #[test]

@@ -1,11 +1,26 @@
 //! Contract sheets: safe functions over the C exports of the verified library.
 //!
-//! A sheet is a slice of words. It holds facts, predicate nodes, rules, entities with their states and
-//! transitions, operations with their effects, and flows with their steps and routes. Every call that takes a
-//! sheet checks it first. Where a call is refused, each slice lent to it still holds what it held.
+//! A sheet is a slice of words, which docs/FORMAT.md in the repository describes: facts, predicate nodes, rules,
+//! entities with their states and transitions, operations with their effects, flows with their steps and routes. The
+//! first 16 words are the header, which has the count of each: `sheet[1]` personas, `sheet[2]` facts, `sheet[4]` rules,
+//! `sheet[5]` entities, `sheet[7]` operations, `sheet[9]` flows.
+//!
+//! Anything may be handed to any call. Every call that takes a sheet checks it first and is refused with
+//! [`Refusal::Header`], [`Refusal::Group`] or [`Refusal::Record`] where it is not accepted. Where a call is refused,
+//! each slice lent to it still holds what it held. The slices that come back in several calls:
+//!
+//! | Slice | What it holds | Its length, else [`Refusal::Length`] |
+//! |---|---|---|
+//! | `values` | the value of each fact; that of a fact that is not given is not read | the sheet's facts, exactly |
+//! | `given` | for each fact 1 where its value is given, 0 where it is not | the sheet's facts, exactly |
+//! | `verdicts` | the verdict of each rule, 1 or 0 | the sheet's rules, exactly |
+//! | `states` | the present state of each entity | the sheet's entities, exactly |
+//! | `path` | the numbers of the routes taken, then zeros | the flow's steps or more; 256 always serves |
+//!
+//! A call needs up to [`STACK`] bytes of stack, whatever the sheet.
 //!
 //! ```
-//! use fernpocket::{check, example, run, Path, Reason, Terminal};
+//! use fernpocket::{check, example, run, Path, Refusal, Terminal};
 //!
 //! let mut sheet = example::sheet();
 //! assert_eq!(check(&sheet), Ok(()));
@@ -17,8 +32,7 @@
 //! assert_eq!((states, path), ([1], [0, 2]));
 //!
 //! sheet[16 + 8 * 8 + 3] = 2; // record 8 is an effect: its outcome
-//! let refusal = check(&sheet).unwrap_err();
-//! assert_eq!((refusal.reason, refusal.place), (Reason::Record, 8));
+//! assert_eq!(check(&sheet), Err(Refusal::Record(8)));
 //! # Ok::<(), fernpocket::Refusal>(())
 //! ```
 #![deny(missing_docs)]
@@ -28,7 +42,10 @@ pub mod raw;
 mod refusal;
 
 use raw::Answer;
-pub use refusal::{Reason, Refusal};
+pub use refusal::Refusal;
+
+/// The bytes of stack that a call may need, measured on x86-64 and rounded up: the header's `FERNPOCKET_STACK`.
+pub const STACK: usize = 448 * 1024;
 
 /// How a flow's path ends.
 #[derive(Clone, Copy, Debug, PartialEq, Eq, Hash)]
@@ -54,8 +71,7 @@ fn accepted(answer: Answer) -> Result<Answer, Refusal> {
     if answer.refusal == 0 {
         return Ok(answer);
     }
-    let reason = Reason::from_number(answer.refusal).expect("a refusal has a number of 1 to 15");
-    Err(Refusal { reason, place: answer.place as usize })
+    Err(Refusal::from_numbers(answer.refusal, answer.place as usize).expect("a refusal has a number of 1 to 15"))
 }
 
 fn done(answer: Answer) -> Result<(), Refusal> {
@@ -82,17 +98,17 @@ fn number(number: usize) -> i64 {
     i64::try_from(number).unwrap_or(i64::MAX)
 }
 
-/// Checks a sheet.
+/// Checks a sheet: `Ok` where it is accepted.
 ///
-/// Refused for [`Reason::Header`], [`Reason::Groups`] and [`Reason::Record`]; so is each call below that takes a
-/// sheet.
+/// Refused for [`Refusal::Header`], [`Refusal::Group`] and [`Refusal::Record`] alone; each call below that takes a
+/// sheet may be refused for the same.
 ///
 /// ```
-/// use fernpocket::{check, Reason};
+/// use fernpocket::{check, Refusal};
 ///
 /// let empty = [1, 0, 0, 0, 0, 0, 0, 0, 0, 0, 0, 0, 0, 0, 0, 0];
 /// assert_eq!(check(&empty), Ok(()));
-/// assert_eq!(check(&empty[1..]).unwrap_err().reason, Reason::Header);
+/// assert_eq!(check(&empty[1..]), Err(Refusal::Header));
 /// ```
 pub fn check(sheet: &[i64]) -> Result<(), Refusal> {
     done(raw::check(sheet))
@@ -100,18 +116,19 @@ pub fn check(sheet: &[i64]) -> Result<(), Refusal> {
 
 /// Reads a text into the words and answers how many there were. Words past them stay as they were.
 ///
-/// A line has eight decimals parted by one tab and ends with LF. Lines and words are judged, not the sheet.
+/// A line has eight decimals parted by one tab and ends with LF. Lines and words are judged, not the sheet. The words
+/// are any number; half as many as the text has bytes always suffice.
+///
+/// Refused for [`Refusal::Line`], and [`Refusal::NoRoom`] where the text has more words than there is room for.
 ///
 /// ```
-/// use fernpocket::{read_text, Reason};
+/// use fernpocket::{read_text, Refusal};
 ///
 /// let mut words = [9; 10];
 /// assert_eq!(read_text(b"1\t-2\t0\t0\t0\t0\t0\t1000000000\n", &mut words), Ok(8));
 /// assert_eq!(words, [1, -2, 0, 0, 0, 0, 0, 1_000_000_000, 9, 9]);
 ///
-/// let refusal = read_text(b"0\t0\t0\t0\t0\t0\t0\t0\n1\n", &mut words).unwrap_err();
-/// assert_eq!((refusal.reason, refusal.place), (Reason::Text, 1));
-/// assert_eq!(refusal.to_string(), "refused 14 at 1: bad text, or words that have no text");
+/// assert_eq!(read_text(b"0\t0\t0\t0\t0\t0\t0\t0\n1\n", &mut words), Err(Refusal::Line(1)));
 /// ```
 pub fn read_text(text: &[u8], words: &mut [i64]) -> Result<usize, Refusal> {
     value(raw::read_text(text, words))
@@ -119,15 +136,20 @@ pub fn read_text(text: &[u8], words: &mut [i64]) -> Result<usize, Refusal> {
 
 /// Writes the words as text and answers how many bytes that took. Bytes past them stay as they were.
 ///
+/// The text is of any length; 12 bytes a word always suffice.
+///
+/// Refused for [`Refusal::Line`] where eight words have no text (one is outside −1,000,000,000..1,000,000,000, or they
+/// are fewer than eight), and [`Refusal::NoRoom`].
+///
 /// ```
-/// use fernpocket::{example, write_text, Reason};
+/// use fernpocket::{example, write_text, Refusal};
 ///
 /// let mut text = [0; 400];
 /// let length = write_text(&example::sheet(), &mut text)?;
 /// assert_eq!(&text[..length], example::TEXT.as_bytes());
 ///
-/// assert_eq!(write_text(&[0; 7], &mut text).unwrap_err().reason, Reason::Text);
-/// assert_eq!(write_text(&[0; 8], &mut text[..15]).unwrap_err().reason, Reason::Room);
+/// assert_eq!(write_text(&[0; 7], &mut text), Err(Refusal::Line(0)));
+/// assert_eq!(write_text(&[0; 8], &mut text[..15]), Err(Refusal::NoRoom));
 /// # Ok::<(), fernpocket::Refusal>(())
 /// ```
 pub fn write_text(words: &[i64], text: &mut [u8]) -> Result<usize, Refusal> {
@@ -136,15 +158,16 @@ pub fn write_text(words: &[i64], text: &mut [u8]) -> Result<usize, Refusal> {
 
 /// Puts the defaults into the values of facts that are not given (flag 0).
 ///
+/// Refused for a sheet's refusals, [`Refusal::Length`], [`Refusal::FactValue`] and [`Refusal::FactAbsent`].
+///
 /// ```
-/// use fernpocket::{assemble, example, Reason};
+/// use fernpocket::{assemble, example, Refusal};
 ///
 /// let mut values = [77];
 /// assemble(&example::sheet(), &mut values, &[0])?;
 /// assert_eq!(values, [0]);
 ///
-/// let refusal = assemble(&example::sheet(), &mut [2], &[1]).unwrap_err();
-/// assert_eq!((refusal.reason, refusal.place), (Reason::Given, 0));
+/// assert_eq!(assemble(&example::sheet(), &mut [2], &[1]), Err(Refusal::FactValue(0)));
 /// # Ok::<(), fernpocket::Refusal>(())
 /// ```
 pub fn assemble(sheet: &[i64], values: &mut [i64], given: &[i64]) -> Result<(), Refusal> {
@@ -152,6 +175,8 @@ pub fn assemble(sheet: &[i64], values: &mut [i64], given: &[i64]) -> Result<(), 
 }
 
 /// Writes each rule's verdict, 1 or 0.
+///
+/// Refused for a sheet's refusals, [`Refusal::Length`], [`Refusal::FactValue`] and [`Refusal::FactAbsent`].
 ///
 /// ```
 /// use fernpocket::verdicts;
@@ -172,17 +197,20 @@ pub fn verdicts(sheet: &[i64], values: &[i64], given: &[i64], verdicts: &mut [i6
     done(raw::verdicts(sheet, values, given, verdicts))
 }
 
-/// Performs an operation on the states and answers the outcome.
+/// Performs an operation on the states and answers the outcome. The states are then those after the outcome.
+///
+/// Refused for a sheet's refusals, [`Refusal::Length`], [`Refusal::Missing`], [`Refusal::FactValue`],
+/// [`Refusal::FactAbsent`], [`Refusal::State`], [`Refusal::Persona`], [`Refusal::Precondition`] and
+/// [`Refusal::NoOutcome`].
 ///
 /// ```
-/// use fernpocket::{example, operate, Reason};
+/// use fernpocket::{example, operate, Refusal};
 ///
 /// let sheet = example::sheet();
 /// let mut states = [0];
 /// assert_eq!(operate(&sheet, &[1], &[1], &mut states, 0, 0), Ok(0));
 /// assert_eq!(states, [1]);
-/// let again = operate(&sheet, &[1], &[1], &mut states, 0, 0).unwrap_err();
-/// assert_eq!(again.reason, Reason::Outcome);
+/// assert_eq!(operate(&sheet, &[1], &[1], &mut states, 0, 0), Err(Refusal::NoOutcome));
 /// # Ok::<(), fernpocket::Refusal>(())
 /// ```
 pub fn operate(
@@ -196,8 +224,13 @@ pub fn operate(
     value(raw::operate(sheet, values, given, states, number(persona), number(operation)))
 }
 
-/// Runs a flow: changes the states, and puts the path in the buffer, which is at least as long as the flow has
-/// steps.
+/// Runs a flow: changes the states, and puts the path in the buffer.
+///
+/// A step that is refused takes its failure route; the run goes on, and what earlier steps changed remains. So a run that
+/// ends in [`Terminal::Failure`] is answered `Ok`.
+///
+/// Refused for a sheet's refusals, [`Refusal::Length`], [`Refusal::Missing`], [`Refusal::FactValue`],
+/// [`Refusal::FactAbsent`] and [`Refusal::State`].
 ///
 /// ```
 /// use fernpocket::{example, run, Path, Terminal};
@@ -219,10 +252,12 @@ pub fn run(
     path_of(raw::run(sheet, values, given, states, number(flow), path))
 }
 
-/// Puts a flow's first path in the buffer, which is at least as long as the flow has steps.
+/// S6: puts a flow's first path in the buffer, whatever that holds.
+///
+/// Refused for a sheet's refusals, [`Refusal::Length`] and [`Refusal::Missing`].
 ///
 /// ```
-/// use fernpocket::{example, first, next, Reason};
+/// use fernpocket::{example, first, next, Refusal};
 ///
 /// let sheet = example::sheet();
 /// let mut buffer = [0; 2];
@@ -232,7 +267,7 @@ pub fn run(
 ///     paths.push(buffer[..path.length].to_vec());
 ///     answer = next(&sheet, 0, &mut buffer);
 /// }
-/// assert_eq!(answer.unwrap_err().reason, Reason::LastPath);
+/// assert_eq!(answer, Err(Refusal::LastPath));
 /// assert_eq!(paths, [vec![0, 2], vec![0, 3], vec![0, 4], vec![1]]);
 /// # Ok::<(), fernpocket::Refusal>(())
 /// ```
@@ -240,17 +275,19 @@ pub fn first(sheet: &[i64], flow: usize, path: &mut [u16]) -> Result<Path, Refus
     path_of(raw::first(sheet, number(flow), path))
 }
 
-/// Puts the path that follows the one at the buffer's head in the buffer. Past the last path it is refused with
-/// [`Reason::LastPath`] and leaves that path there.
+/// S6: puts the path that follows the one at the buffer's head in the buffer. What stands past that path is not read.
+///
+/// Refused for a sheet's refusals, [`Refusal::Length`], [`Refusal::Missing`], [`Refusal::NotPath`], and past the last path
+/// [`Refusal::LastPath`], which leaves that path there.
 ///
 /// ```
-/// use fernpocket::{example, next, Path, Reason, Terminal};
+/// use fernpocket::{example, next, Path, Refusal, Terminal};
 ///
 /// let mut buffer = [0, 4, 99];
 /// let path = next(&example::sheet(), 0, &mut buffer)?;
 /// assert_eq!(path, Path { terminal: Terminal::Failure, length: 1 });
 /// assert_eq!(buffer, [1, 0, 0]);
-/// assert_eq!(next(&example::sheet(), 0, &mut [3, 0]).unwrap_err().reason, Reason::NotAPath);
+/// assert_eq!(next(&example::sheet(), 0, &mut [3, 0]), Err(Refusal::NotPath));
 /// # Ok::<(), fernpocket::Refusal>(())
 /// ```
 pub fn next(sheet: &[i64], flow: usize, path: &mut [u16]) -> Result<Path, Refusal> {
@@ -258,6 +295,8 @@ pub fn next(sheet: &[i64], flow: usize, path: &mut [u16]) -> Result<Path, Refusa
 }
 
 /// S1: the number of an entity's states.
+///
+/// This and the reports below are refused for a sheet's refusals and, but for [`rules`], for [`Refusal::Missing`].
 ///
 /// ```
 /// assert_eq!(fernpocket::states(&fernpocket::example::sheet(), 0), Ok(3));
@@ -317,9 +356,9 @@ pub fn rules(sheet: &[i64]) -> Result<usize, Refusal> {
 /// S5: a rule's stratum.
 ///
 /// ```
-/// use fernpocket::{example, stratum, Reason};
+/// use fernpocket::{example, stratum, Refusal};
 ///
-/// assert_eq!(stratum(&example::sheet(), 0).unwrap_err().reason, Reason::Missing);
+/// assert_eq!(stratum(&example::sheet(), 0), Err(Refusal::Missing));
 /// ```
 pub fn stratum(sheet: &[i64], rule: usize) -> Result<usize, Refusal> {
     value(raw::stratum(sheet, number(rule)))

@@ -14,13 +14,7 @@ pub struct Answer {
     pub length: i64,
 }
 
-/// Does the linked archive have this export? The name is without `fernpocket_`.
-pub fn present(export: &str) -> bool {
-    !env!("FERNPOCKET_MISSING").split(',').any(|missing| missing == export)
-}
-
 #[rustfmt::skip]
-#[allow(dead_code)]
 mod linked {
     use super::Answer;
 
@@ -68,45 +62,33 @@ mod linked {
     }
 }
 
-// SAFETY of every call below: each pointer and count come from one live slice, shared for const pointers and
-// exclusive for the others; the exports read and write within them and keep no pointer.
+// Each pointer and count come from one live slice, shared for const pointers and exclusive for the others; the exports read
+// and write within them and keep no pointer.
 macro_rules! call {
-    ($export:tt, $function:ident, $($argument:expr),*) => {{
-        #[cfg(export = $export)]
-        let answer = unsafe { linked::$function($($argument),*) };
-        #[cfg(not(export = $export))]
-        let answer = {
-            $(let _ = $argument;)*
-            missing($export)
-        };
-        answer
-    }};
-}
-
-#[allow(dead_code)]
-fn missing(export: &str) -> Answer {
-    panic!("the linked libfernpocket.a has no fernpocket_{export}: run `rt staticlib fernpocket` again")
+    ($function:ident, $($argument:expr),*) => {
+        // SAFETY: as above.
+        unsafe { linked::$function($($argument),*) }
+    };
 }
 
 /// See [`crate::check`].
 pub fn check(sheet: &[i64]) -> Answer {
-    call!("check", fernpocket_check, sheet.as_ptr(), sheet.len())
+    call!(fernpocket_check, sheet.as_ptr(), sheet.len())
 }
 
 /// See [`crate::read_text`].
 pub fn read_text(text: &[u8], words: &mut [i64]) -> Answer {
-    call!("read_text", fernpocket_read_text, text.as_ptr(), text.len(), words.as_mut_ptr(), words.len())
+    call!(fernpocket_read_text, text.as_ptr(), text.len(), words.as_mut_ptr(), words.len())
 }
 
 /// See [`crate::write_text`].
 pub fn write_text(words: &[i64], text: &mut [u8]) -> Answer {
-    call!("write_text", fernpocket_write_text, words.as_ptr(), words.len(), text.as_mut_ptr(), text.len())
+    call!(fernpocket_write_text, words.as_ptr(), words.len(), text.as_mut_ptr(), text.len())
 }
 
 /// See [`crate::assemble`].
 pub fn assemble(sheet: &[i64], values: &mut [i64], given: &[i64]) -> Answer {
     call!(
-        "assemble",
         fernpocket_assemble,
         sheet.as_ptr(),
         sheet.len(),
@@ -120,7 +102,6 @@ pub fn assemble(sheet: &[i64], values: &mut [i64], given: &[i64]) -> Answer {
 /// See [`crate::verdicts`].
 pub fn verdicts(sheet: &[i64], values: &[i64], given: &[i64], verdicts: &mut [i64]) -> Answer {
     call!(
-        "verdicts",
         fernpocket_verdicts,
         sheet.as_ptr(),
         sheet.len(),
@@ -143,7 +124,6 @@ pub fn operate(
     operation: i64,
 ) -> Answer {
     call!(
-        "operate",
         fernpocket_operate,
         sheet.as_ptr(),
         sheet.len(),
@@ -161,7 +141,6 @@ pub fn operate(
 /// See [`crate::run`].
 pub fn run(sheet: &[i64], values: &[i64], given: &[i64], states: &mut [i64], flow: i64, path: &mut [u16]) -> Answer {
     call!(
-        "run",
         fernpocket_run,
         sheet.as_ptr(),
         sheet.len(),
@@ -179,55 +158,55 @@ pub fn run(sheet: &[i64], values: &[i64], given: &[i64], states: &mut [i64], flo
 
 /// See [`crate::first`].
 pub fn first(sheet: &[i64], flow: i64, path: &mut [u16]) -> Answer {
-    call!("first", fernpocket_first, sheet.as_ptr(), sheet.len(), flow, path.as_mut_ptr(), path.len())
+    call!(fernpocket_first, sheet.as_ptr(), sheet.len(), flow, path.as_mut_ptr(), path.len())
 }
 
 /// See [`crate::next`].
 pub fn next(sheet: &[i64], flow: i64, path: &mut [u16]) -> Answer {
-    call!("next", fernpocket_next, sheet.as_ptr(), sheet.len(), flow, path.as_mut_ptr(), path.len())
+    call!(fernpocket_next, sheet.as_ptr(), sheet.len(), flow, path.as_mut_ptr(), path.len())
 }
 
 /// See [`crate::states`].
 pub fn states(sheet: &[i64], entity: i64) -> Answer {
-    call!("states", fernpocket_states, sheet.as_ptr(), sheet.len(), entity)
+    call!(fernpocket_states, sheet.as_ptr(), sheet.len(), entity)
 }
 
 /// See [`crate::reachable`].
 pub fn reachable(sheet: &[i64], entity: i64) -> Answer {
-    call!("reachable", fernpocket_reachable, sheet.as_ptr(), sheet.len(), entity)
+    call!(fernpocket_reachable, sheet.as_ptr(), sheet.len(), entity)
 }
 
 /// See [`crate::admissible`].
 pub fn admissible(sheet: &[i64], entity: i64, state: i64, persona: i64, operation: i64) -> Answer {
-    call!("admissible", fernpocket_admissible, sheet.as_ptr(), sheet.len(), entity, state, persona, operation)
+    call!(fernpocket_admissible, sheet.as_ptr(), sheet.len(), entity, state, persona, operation)
 }
 
 /// See [`crate::can_cause`].
 pub fn can_cause(sheet: &[i64], persona: i64, entity: i64, from: i64, to: i64) -> Answer {
-    call!("can_cause", fernpocket_can_cause, sheet.as_ptr(), sheet.len(), persona, entity, from, to)
+    call!(fernpocket_can_cause, sheet.as_ptr(), sheet.len(), persona, entity, from, to)
 }
 
 /// See [`crate::rules`].
 pub fn rules(sheet: &[i64]) -> Answer {
-    call!("rules", fernpocket_rules, sheet.as_ptr(), sheet.len())
+    call!(fernpocket_rules, sheet.as_ptr(), sheet.len())
 }
 
 /// See [`crate::stratum`].
 pub fn stratum(sheet: &[i64], rule: i64) -> Answer {
-    call!("stratum", fernpocket_stratum, sheet.as_ptr(), sheet.len(), rule)
+    call!(fernpocket_stratum, sheet.as_ptr(), sheet.len(), rule)
 }
 
 /// See [`crate::outcomes`].
 pub fn outcomes(sheet: &[i64], operation: i64) -> Answer {
-    call!("outcomes", fernpocket_outcomes, sheet.as_ptr(), sheet.len(), operation)
+    call!(fernpocket_outcomes, sheet.as_ptr(), sheet.len(), operation)
 }
 
 /// See [`crate::tree_size`].
 pub fn tree_size(sheet: &[i64], node: i64) -> Answer {
-    call!("tree_size", fernpocket_tree_size, sheet.as_ptr(), sheet.len(), node)
+    call!(fernpocket_tree_size, sheet.as_ptr(), sheet.len(), node)
 }
 
 /// See [`crate::depth`].
 pub fn depth(sheet: &[i64], flow: i64) -> Answer {
-    call!("depth", fernpocket_depth, sheet.as_ptr(), sheet.len(), flow)
+    call!(fernpocket_depth, sheet.as_ptr(), sheet.len(), flow)
 }

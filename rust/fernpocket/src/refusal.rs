@@ -1,117 +1,137 @@
-//! Refusals, as document 01 numbers them.
+//! Refusals, by the names that the Rattle sources and the C header give them.
 
 use std::error::Error;
 use std::fmt;
 
-/// Why a call was refused.
+/// Why a call was refused. Every lent slice still holds what it held.
+///
+/// A case that has a place holds it: a record, a fact, an entity or a line, each counted from 0.
+///
+/// ```
+/// use fernpocket::{check, Refusal};
+///
+/// let refusal = check(&[]).unwrap_err();
+/// assert_eq!(refusal, Refusal::Header);
+/// assert_eq!((refusal.number(), refusal.place()), (1, 0));
+/// assert_eq!(refusal.to_string(), "refused 1 at 0: the header or the sheet's length is wrong");
+/// ```
 #[derive(Clone, Copy, Debug, PartialEq, Eq, Hash, PartialOrd, Ord)]
-#[repr(u8)]
-pub enum Reason {
-    /// 1: fewer than 16 words, or a header or length fault.
-    Header = 1,
-    /// 2: a group table's count is not the sum of its owners' counts.
-    Groups = 2,
-    /// 3: a bad record; the place is the first one's number.
-    Record = 3,
-    /// 4: a lent slice has the wrong length.
-    Length = 4,
-    /// 5: no such persona, operation, flow, entity, state, rule or node.
-    Missing = 5,
-    /// 6: a given flag not 0 or 1, or a given value outside min..max; the place is the fact.
-    Given = 6,
-    /// 7: a fact neither given nor defaulted; the place is the fact.
-    NotGiven = 7,
-    /// 8: a lent state not among its entity's states; the place is the entity.
-    State = 8,
-    /// 9: the persona is not in the operation's mask.
-    Persona = 9,
-    /// 10: the precondition is false.
-    Precondition = 10,
-    /// 11: no outcome is applicable.
-    Outcome = 11,
+pub enum Refusal {
+    /// 1: fewer than 16 words, a wrong header, or a length that is not the header's.
+    Header,
+    /// 2: the counts of a group's owners do not add up to the table's count.
+    Group,
+    /// 3: this record is bad, and none before it is. In the sheet's text it is line place + 3, counted from 1.
+    Record(usize),
+    /// 4: a slice has the wrong length.
+    Length,
+    /// 5: there is no such persona, operation, flow, entity, state, rule or node.
+    Missing,
+    /// 6: this fact's given flag is not 0 or 1, or it is given with a value outside its min..max.
+    FactValue(usize),
+    /// 7: this fact is not given and has no default.
+    FactAbsent(usize),
+    /// 8: the state lent for this entity is not one of its states.
+    State(usize),
+    /// 9: the persona may not perform the operation.
+    Persona,
+    /// 10: the operation's precondition is false.
+    Precondition,
+    /// 11: no outcome of the operation applies to the present states.
+    NoOutcome,
     /// 12: the buffer does not begin with a path of the flow.
-    NotAPath = 12,
-    /// 13: no further path.
-    LastPath = 13,
-    /// 14: bad text, or words that have no text; the place is the first such line, from 0.
-    Text = 14,
+    NotPath,
+    /// 13: no path follows the one in the buffer.
+    LastPath,
+    /// 14: this line of the text is bad, or this line's words have no text.
+    Line(usize),
     /// 15: the output is shorter than the result.
-    Room = 15,
-}
-
-impl Reason {
-    /// Every reason, in the order of the numbers.
-    pub const ALL: [Reason; 15] = [
-        Reason::Header,
-        Reason::Groups,
-        Reason::Record,
-        Reason::Length,
-        Reason::Missing,
-        Reason::Given,
-        Reason::NotGiven,
-        Reason::State,
-        Reason::Persona,
-        Reason::Precondition,
-        Reason::Outcome,
-        Reason::NotAPath,
-        Reason::LastPath,
-        Reason::Text,
-        Reason::Room,
-    ];
-
-    /// The refusal number, 1 to 15.
-    pub fn number(self) -> u8 {
-        self as u8
-    }
-
-    /// The reason with this number.
-    pub fn from_number(number: i64) -> Option<Reason> {
-        let index = usize::try_from(number).ok()?.checked_sub(1)?;
-        Reason::ALL.get(index).copied()
-    }
-}
-
-impl fmt::Display for Reason {
-    fn fmt(&self, f: &mut fmt::Formatter) -> fmt::Result {
-        f.write_str(match self {
-            Reason::Header => "a header or length fault",
-            Reason::Groups => "a group table's count is not the sum of its owners' counts",
-            Reason::Record => "a bad record",
-            Reason::Length => "a lent slice has the wrong length",
-            Reason::Missing => "no such persona, operation, flow, entity, state, rule or node",
-            Reason::Given => "a given flag or value out of its range",
-            Reason::NotGiven => "a fact neither given nor defaulted",
-            Reason::State => "a lent state not among its entity's states",
-            Reason::Persona => "the persona is not in the mask",
-            Reason::Precondition => "the precondition is false",
-            Reason::Outcome => "no outcome is applicable",
-            Reason::NotAPath => "the buffer does not begin with a path of the flow",
-            Reason::LastPath => "no further path",
-            Reason::Text => "bad text, or words that have no text",
-            Reason::Room => "the output is shorter than the result",
-        })
-    }
-}
-
-/// A refused call. Every lent slice still holds what it held.
-#[derive(Clone, Copy, Debug, PartialEq, Eq, Hash)]
-pub struct Refusal {
-    /// Why.
-    pub reason: Reason,
-    /// Where: a record, fact, entity or line; 0 for the other reasons.
-    pub place: usize,
+    NoRoom,
 }
 
 impl Refusal {
-    /// The refusal number, 1 to 15.
-    pub fn number(&self) -> u8 {
-        self.reason.number()
+    /// The refusal with this number and place; None where there is no such number.
+    pub fn from_numbers(number: i64, place: usize) -> Option<Refusal> {
+        Some(match number {
+            1 => Refusal::Header,
+            2 => Refusal::Group,
+            3 => Refusal::Record(place),
+            4 => Refusal::Length,
+            5 => Refusal::Missing,
+            6 => Refusal::FactValue(place),
+            7 => Refusal::FactAbsent(place),
+            8 => Refusal::State(place),
+            9 => Refusal::Persona,
+            10 => Refusal::Precondition,
+            11 => Refusal::NoOutcome,
+            12 => Refusal::NotPath,
+            13 => Refusal::LastPath,
+            14 => Refusal::Line(place),
+            15 => Refusal::NoRoom,
+            _ => return None,
+        })
+    }
+
+    /// The refusal's number, 1 to 15.
+    pub fn number(self) -> u8 {
+        match self {
+            Refusal::Header => 1,
+            Refusal::Group => 2,
+            Refusal::Record(_) => 3,
+            Refusal::Length => 4,
+            Refusal::Missing => 5,
+            Refusal::FactValue(_) => 6,
+            Refusal::FactAbsent(_) => 7,
+            Refusal::State(_) => 8,
+            Refusal::Persona => 9,
+            Refusal::Precondition => 10,
+            Refusal::NoOutcome => 11,
+            Refusal::NotPath => 12,
+            Refusal::LastPath => 13,
+            Refusal::Line(_) => 14,
+            Refusal::NoRoom => 15,
+        }
+    }
+
+    /// The record, fact, entity or line; 0 where the refusal has no place.
+    pub fn place(self) -> usize {
+        match self {
+            Refusal::Record(place)
+            | Refusal::FactValue(place)
+            | Refusal::FactAbsent(place)
+            | Refusal::State(place)
+            | Refusal::Line(place) => place,
+            _ => 0,
+        }
+    }
+
+    /// What is wrong, in words, without number and place. The C example prints the same words.
+    pub fn words(self) -> &'static str {
+        match self {
+            Refusal::Header => "the header or the sheet's length is wrong",
+            Refusal::Group => "the counts of a group's owners do not add up to the table's count",
+            Refusal::Record(_) => "this record is bad (in the text: line place + 3, counted from 1)",
+            Refusal::Length => "a slice has the wrong length",
+            Refusal::Missing => "there is no such persona, operation, flow, entity, state, rule or node",
+            Refusal::FactValue(_) => {
+                "this fact is given wrongly: its flag is not 0 or 1, or its value is outside min..max"
+            }
+            Refusal::FactAbsent(_) => "this fact is not given and has no default",
+            Refusal::State(_) => "the state of this entity is not one of its states",
+            Refusal::Persona => "the persona may not perform the operation",
+            Refusal::Precondition => "the operation's precondition is false",
+            Refusal::NoOutcome => "no outcome of the operation applies to the present states",
+            Refusal::NotPath => "the buffer does not begin with a path of the flow",
+            Refusal::LastPath => "no path follows the one in the buffer",
+            Refusal::Line(_) => "this line is bad (line place + 1, counted from 1)",
+            Refusal::NoRoom => "the output is shorter than the result",
+        }
     }
 }
 
 impl fmt::Display for Refusal {
     fn fmt(&self, f: &mut fmt::Formatter) -> fmt::Result {
-        write!(f, "refused {} at {}: {}", self.number(), self.place, self.reason)
+        write!(f, "refused {} at {}: {}", self.number(), self.place(), self.words())
     }
 }
 

@@ -1,52 +1,168 @@
-//! The C program of examples/c, compiled against the archive and run on the escrow contract.
+//! The C header in C and C++, and the C program of examples/c, compiled against the archive and run on the escrow contract.
 
-use std::fs::{self, File};
+use fernpocket::Refusal;
+use std::fs;
+use std::io::Write;
 use std::path::{Path, PathBuf};
-use std::process::Command;
+use std::process::{Command, Stdio};
 
-/// Compiles it.
-fn desk(name: &str) -> PathBuf {
-    let root = Path::new(env!("CARGO_MANIFEST_DIR")).join("../..");
-    let archive = match std::env::var_os("FERNPOCKET_LIB") {
-        Some(folder) => Path::new(env!("CARGO_MANIFEST_DIR")).join(folder),
-        None => root.join("target/staticlib"),
-    };
-    let program = Path::new(env!("CARGO_TARGET_TMPDIR")).join(name);
-    let status = Command::new("cc")
-        .args(["-std=c99", "-Wall", "-Wextra", "-Werror", "-I"])
-        .arg(root.join("include"))
-        .arg(root.join("examples/c/desk.c"))
-        .arg(archive.join("libfernpocket.a"))
-        .arg("-o")
-        .arg(&program)
-        .status()
-        .expect("cc runs");
-    assert!(status.success());
-    program
-}
+/// Warnings are errors.
+const STRICT: [&str; 4] = ["-pedantic", "-Wall", "-Wextra", "-Werror"];
 
-/// What it prints, given the escrow contract and these words.
-fn prints(program: &Path, words: &[&str]) -> String {
-    let text = Path::new(env!("CARGO_MANIFEST_DIR")).join("../../examples/escrow.txt");
-    let output = Command::new(program).args(words).stdin(File::open(text).unwrap()).output().unwrap();
-    String::from_utf8(output.stdout).unwrap()
+fn root() -> PathBuf {
+    Path::new(env!("CARGO_MANIFEST_DIR")).join("../..")
 }
 
 #[test]
-fn lists_paths_performs_operations_and_runs_flows() {
-    let desk = desk("desk");
-    let says = |words: &[&str]| prints(&desk, words).strip_prefix("accepted: 800 words\n").unwrap().to_owned();
-    let listed = says(&[]);
-    assert!(listed.starts_with("flow 0, success: 0 2 4\nflow 0, failure: 0 2 5 8\n"), "{listed}");
-    assert_eq!(listed.lines().count(), 9, "{listed}");
+fn the_header_is_c_and_c_plus_plus() {
+    let compiles = |compiler: &str, language: &str, standard: &str| {
+        let mut command = Command::new(compiler);
+        command.args(STRICT).args(["-x", language, standard, "-fsyntax-only", "-include"]);
+        command.arg(root().join("include/fernpocket.h")).arg("/dev/null");
+        command.status().map(|status| assert!(status.success(), "{compiler} {standard}"))
+    };
+    compiles("cc", "c", "-std=c99").expect("cc runs");
+    compiles("cc", "c", "-std=c11").expect("cc runs");
+    if let Err(error) = compiles("c++", "c++", "-std=c++11") {
+        println!("not tried as C++, c++: {error}");
+    }
+}
 
-    // 5,000.00, delivery confirmed, line items valid: the escrow agent may release it, the buyer may not.
-    let facts = ["0=500000", "1=1", "2=1"];
-    let release = |persona, facts: [&str; 3]| says(&[&["operate", persona, "0"][..], &facts[..]].concat());
-    assert_eq!(release("3", facts), "outcome 0\nstates: 1 0\n");
-    assert_eq!(release("0", facts), "operate: refused 9 at 0\n");
-    // 20,000.00 is past the threshold: it needs the compliance officer.
-    assert_eq!(release("3", ["0=2000000", "1=1", "2=1"]), "operate: refused 10 at 0\n");
-    assert_eq!(says(&[&["run", "0"][..], &facts[..]].concat()), "flow 0, success: 0 2 4\nstates: 1 1\n");
-    fs::remove_file(&desk).unwrap();
+/// The compiled example.
+struct Desk(PathBuf);
+
+impl Desk {
+    fn compiled() -> Desk {
+        let archive = match std::env::var_os("FERNPOCKET_LIB") {
+            Some(folder) => Path::new(env!("CARGO_MANIFEST_DIR")).join(folder),
+            None => root().join("target/staticlib"),
+        };
+        let program = Path::new(env!("CARGO_TARGET_TMPDIR")).join("desk");
+        let mut command = Command::new("cc");
+        command.args(STRICT).args(["-std=c99", "-I"]).arg(root().join("include"));
+        command.arg(root().join("examples/c/desk.c")).arg(archive.join("libfernpocket.a")).arg("-o").arg(&program);
+        assert!(command.status().expect("cc runs").success());
+        Desk(program)
+    }
+
+    /// What it writes for a text and words: the exit status, stdout, stderr.
+    fn on(&self, text: &str, words: &[&str]) -> (i32, String, String) {
+        let mut command = Command::new(&self.0);
+        command.args(words).stdin(Stdio::piped()).stdout(Stdio::piped()).stderr(Stdio::piped());
+        let mut child = command.spawn().unwrap();
+        // Where the words are bad it may end before it has read the text.
+        let _ = child.stdin.take().unwrap().write_all(text.as_bytes());
+        let output = child.wait_with_output().unwrap();
+        let text = |bytes| String::from_utf8(bytes).unwrap();
+        (output.status.code().expect("it ends by itself"), text(output.stdout), text(output.stderr))
+    }
+}
+
+#[test]
+fn the_desk() {
+    let desk = Desk::compiled();
+    let escrow = fs::read_to_string(root().join("examples/escrow.txt")).unwrap();
+    let answers = |line: &str, expected: &str| {
+        let words: Vec<&str> = line.split(' ').collect();
+        assert_eq!(desk.on(&escrow, &words), (0, expected.to_owned(), String::new()), "{line}");
+    };
+    let (status, listed, errors) = desk.on(&escrow, &[]);
+    assert_eq!((status, &errors[..]), (0, ""));
+    assert!(listed.starts_with("accepted: 800 words\nflow 0, success: 0 2 4\nflow 0, failure: 0 2 5 8\n"), "{listed}");
+    assert_eq!(listed.lines().count(), 10, "{listed}");
+
+    // 5,000.00, delivery confirmed, line items valid: the escrow agent may release it.
+    answers("operate 3 0 0=500000 1=1 2=1", "outcome 0\nstates: 1 0\n");
+    answers("run 0 0=500000 1=1 2=1", "flow 0, success: 0 2 4\nstates: 1 1\n");
+
+    // What the library refuses is said in the words of the Rust crate, and nothing is answered.
+    let refused = |text: &str, line: &str, call: &str, refusal: Refusal| {
+        let words: Vec<&str> = line.split(' ').filter(|word| !word.is_empty()).collect();
+        assert_eq!(desk.on(text, &words), (1, String::new(), format!("desk: {call}: {refusal}\n")), "{line}");
+    };
+    refused(&escrow, "operate 0 0 0=500000 1=1 2=1", "operate", Refusal::Persona);
+    refused(&escrow, "operate 3 0 0=2000000 1=1 2=1", "operate", Refusal::Precondition);
+    refused(&escrow, "operate 4 0 0=500000 1=1 2=1", "operate", Refusal::Missing);
+    refused(&escrow, "operate 3 0 0=500000 1=3 2=1", "operate", Refusal::FactValue(1));
+    refused(&escrow, "operate 3 0 0=500000 1=1", "operate", Refusal::FactAbsent(2));
+    refused(&escrow, "run 2 0=500000 1=1 2=1", "run", Refusal::Missing);
+    refused("", "", "check", Refusal::Header);
+    refused(&escrow.replacen("7\t0\t0\t1\t", "7\t6\t0\t1\t", 1), "", "check", Refusal::Record(7));
+    refused(&escrow.replacen("2\t0\t2\t0\t", "2\t0\t2\t00\t", 1), "operate 3 0", "read", Refusal::Line(3));
+
+    // Names and half numbers must not become 0: each is refused with a sentence.
+    let bad = |line: &str, sentence: &str| {
+        let words: Vec<&str> = line.split('|').collect();
+        let (status, answered, said) = desk.on(&escrow, &words);
+        assert_eq!((status, &answered[..]), (2, ""), "{line}");
+        assert!(said.starts_with(sentence), "{line}: {said}");
+    };
+    let number = |what: &str, word: &str| format!("desk: {what} is \"{word}\": it must be a whole number, ");
+    bad("operate|escrow_agent|release_escrow", &number("PERSONA", "escrow_agent"));
+    bad("operate|3|release_escrow", &number("OPERATION", "release_escrow"));
+    bad("run|standard_release", &number("FLOW", "standard_release"));
+    bad("operate|3|0|0=500000|1=1|2=zz", &number("VALUE", "zz"));
+    bad("operate|3|0|escrow_amount=500000|1=1|2=1", &number("FACT", "escrow_amount"));
+    for word in ["", " 3", "3 ", "3x", "0x3", "+3", "-", "-1", "3.0", "1e0", "9223372036854775808"] {
+        bad(&format!("operate|{word}|0|0=500000|1=1|2=1"), &number("PERSONA", word));
+    }
+    bad("operate|3|0|0=|1=1|2=1", &number("VALUE", ""));
+    bad("operate|3|0|0=1000000001|1=1|2=1", &number("VALUE", "1000000001"));
+    bad("operate|3|0|=1", &number("FACT", ""));
+    bad("operate|3|0|0", "desk: \"0\" is not of the form FACT=VALUE\n");
+    bad("operate|3|0|5=1", "desk: fact 5 is not in the sheet\n");
+    bad("operate|3|0|0=1|0=2", "desk: fact 0 is given twice\n");
+    for line in ["", "operate", "operate|3", "run", "release|3|0"] {
+        bad(line, "usage: desk");
+    }
+    format_page(&desk);
+
+    let long = "0\t0\t0\t0\t0\t0\t0\t0\n".repeat(30_000);
+    assert_eq!(desk.on(&long, &[]).0, 2);
+    fs::remove_file(&desk.0).unwrap();
+}
+
+/// The sheet of docs/FORMAT.md, line by line, and what the page says comes out.
+fn format_page(desk: &Desk) {
+    let page = fs::read_to_string(root().join("docs/FORMAT.md")).unwrap();
+    let sheet = fs::read_to_string(root().join("examples/claim.txt")).unwrap();
+    let page = page.split_once("## A small sheet, line by line").unwrap().1;
+    let tables: Vec<Vec<Vec<&str>>> = page.split("|\n\n").map(rows).filter(|table| !table.is_empty()).collect();
+    let [lines, calls, wrong] = &tables[..] else { panic!("{} tables", tables.len()) };
+
+    let line = |words: &str| words.trim_matches('`').replace(' ', "\t") + "\n";
+    assert_eq!(lines.iter().map(|row| line(row[2])).collect::<String>(), sheet);
+    for (index, row) in lines.iter().enumerate() {
+        let place = index.checked_sub(2).map_or(String::new(), |place| place.to_string());
+        assert_eq!((row[0], row[1]), (&(index + 1).to_string()[..], &place[..]));
+    }
+    // Answers line by line; of a refusal the number and the place.
+    let says = |text: &str, words: &[&str]| {
+        let (status, answered, said) = desk.on(text, words);
+        match status {
+            0 => answered.lines().map(|line| format!("`{line}`")).collect::<Vec<_>>().join(", "),
+            _ => format!("`refused {}`", said.split("refused ").nth(1).unwrap().split(':').next().unwrap()),
+        }
+    };
+    let listed: String =
+        page.lines().filter_map(|line| line.strip_prefix("    ")).map(|line| format!("{line}\n")).collect();
+    assert_eq!(desk.on(&sheet, &[]), (0, listed, String::new()));
+    for row in calls {
+        let words: Vec<&str> = row[0].trim_matches('`').split(' ').collect();
+        assert_eq!(says(&sheet, &words), row[1], "{row:?}");
+    }
+    for row in wrong {
+        let number: usize = row[0].parse().unwrap();
+        let changed = sheet.split_inclusive('\n').enumerate();
+        let changed: String =
+            changed.map(|(index, old)| if index + 1 == number { line(row[1]) } else { old.to_owned() }).collect();
+        assert_ne!(changed, sheet);
+        assert_eq!(says(&changed, &[]), row[2], "{row:?}");
+    }
+}
+
+/// The rows of a Markdown table, without its head.
+fn rows(text: &str) -> Vec<Vec<&str>> {
+    let rows = text.lines().filter(|line| line.starts_with('|')).skip(2);
+    rows.map(|row| row.split('|').skip(1).map(str::trim).collect()).collect()
 }

@@ -336,6 +336,37 @@ fn every_comparison_range_against_every_pair() {
 }
 
 #[test]
+fn every_range_of_and_and_or_against_every_pair() {
+    // As above, over two children that are each false, true or a Bool fact: under a not S3a sees the low end.
+    let children: [(&[i64], &[bool]); 3] = [(&[1, 0], &[false]), (&[1, 1], &[true]), (&[3, 0], &[false, true])];
+    for (left, lefts) in children {
+        for (right, rights) in children {
+            for kind in [9, 10] {
+                let holds = |x: bool, y: bool| if kind == 9 { x && y } else { x || y };
+                let sheet = sheet(
+                    1,
+                    [
+                        &[&[0, 0, 1]],
+                        &[left, right, &[kind, 0, 1], left, right, &[kind, 3, 4], &[11, 5]],
+                        &[],
+                        &[&[1, 0]],
+                        &[&[0, 0, 0]],
+                        &[&[1, 2, 0, 1, 1], &[1, 6, 1, 1, 1]],
+                        &[&[0, 0, 0, 0], &[0, 0, 0, 0]],
+                        &[],
+                        &[],
+                        &[],
+                    ],
+                );
+                let some = |wanted| lefts.iter().any(|&x| rights.iter().any(|&y| holds(x, y) == wanted)) as i64;
+                assert_eq!(admissible(&sheet, 0, 0, 0, 0), good(some(true), 0));
+                assert_eq!(admissible(&sheet, 0, 0, 0, 1), good(some(false), 0));
+            }
+        }
+    }
+}
+
+#[test]
 fn effect_records() {
     let one = |outcomes: i64, effects: &[&[i64]]| check(&desk(&[&[1, 0, 0, effects.len() as i64, outcomes]], effects));
     let first = 1 + 3 + 48 + 1;
