@@ -4,3 +4,4 @@ pub mod ValueLaws
 pub mod VerdictLaws
 pub mod RangeLaws
 pub mod SizeLaws
+pub mod TakenLaws

@@ -9,7 +9,6 @@ use lib.IntN.{ℤ, pos}
 use native.Mathlib.Omega.{arith}
 use Rattle.tables.specs.Table.{grown, entry}
 use Rattle.tables.specs.Lists.{pick}
-use Rattle.tables.proofs.Bools.{and-right}
 use Rattle.tables.proofs.Lists.{Before}
 use Rattle.tables.proofs.Grown.{length-grown, grown-at}
 use Rattle.signed.specs.Compare.{Pair, canHold, canFail}
@@ -25,10 +24,10 @@ use Rattle.item.specs.Items.{none, span, compared, Small}
 use Rattle.node.specs.declared.Given.{Given}
 use Rattle.node.specs.declared.Kids.{Kids}
 use Rattle.node.specs.Rows.{Row, comparison, rowOf}
-use Rattle.node.specs.Judged.{kids, fits, keep, judged}
+use Rattle.node.specs.Judged.{kids, fits}
 use Rattle.records.specs.Accepted.{Accepted}
 use Rattle.records.specs.Facts.{minOf}
-use Rattle.records.specs.Nodes.{nodeWords, nodeRow, childrenOf, namedFact, givenOf, itemOf, goodChildren, namedByNodes, goodNode}
+use Rattle.records.specs.Nodes.{nodeWords, nodeRow, childrenOf, namedFact, givenOf, itemOf}
 use Rattle.records.proofs.FactLaws.{fact-ok}
 use Rattle.records.proofs.NodeLaws.{node-ok}
 use Rattle.facts.specs.Assembled.{FactsIn}
@@ -127,12 +126,6 @@ pub none-small : Small none
 unfolding bounded within
 none-small = record { low = refl; high = refl }
 
--- a good node's item is what its row gives
-judged-item : (s : List ℤ) (h : Header) (n : ℕ) → goodNode s h n ≡ true → judged (nodeRow s h n) (givenOf s h (itemOf s h) n) .item ≡ itemOf s h n
-unfolding goodNode judged keep
-judged-item s h n p =
-    rw (and-right (goodChildren n (namedByNodes s h n) (childrenOf s h n)) (fits (nodeRow s h n) (givenOf s h (itemOf s h) n)) p) (sym (node-ok s h n p .item))
-
 module _ {s : List ℤ} {base rules n : ℕ} (v : RangeAt s base rules n) where
   abbrev item : ℕ → Item
   item j = itemOf s (headerOf s) j
@@ -140,27 +133,35 @@ module _ {s : List ℤ} {base rules n : ℕ} (v : RangeAt s base rules n) where
   pub item-small : Small (item n)
   item-small = node-ok s (headerOf s) n (v .accepted .nodes n (v .exists)) .fits
 
-  abbrev from : ℕ → ℕ → Item → Item → Item
-  from first few x y = judged (rowAt s (first + n)) (givenAt s first few (first + n) x y) .item
-
-  met : (x y : Item) (cs : List ℕ) → childrenOf s (headerOf s) n ≡ cs → x ≡ pick item none cs 0 → y ≡ pick item none cs 1 → from base rules x y ≡ item n
-  met x y cs e p q =
+  -- what holds of the node by the header holds of it by the first node's record
+  met : {A : Type 0} (Q : Row → Given → A) (x y : Item) (cs : List ℕ) → childrenOf s (headerOf s) n ≡ cs → x ≡ pick item none cs 0 → y ≡ pick item none cs 1
+      → Q (rowAt s (base + n)) (givenAt s base rules (base + n) x y) ≡ Q (nodeRow s (headerOf s) n) (givenOf s (headerOf s) item n)
+  met Q x y cs e p q =
       let h = headerOf s in
-      ap (λ (b : ℕ). from b rules x y) (v .first)
-      ∙ ap (λ (r : ℕ). from (firstNode h) r x y) (v .cited)
-      ∙ ap (λ (z : Item). from (firstNode h) (h .rules) z y) (p ∙ ap (λ (l : List ℕ). pick item none l 0) (sym e))
-      ∙ ap (λ (z : Item). from (firstNode h) (h .rules) (pick item none (childrenOf s h n) 0) z) (q ∙ ap (λ (l : List ℕ). pick item none l 1) (sym e))
-      ∙ judged-item s h n (v .accepted .nodes n (v .exists))
+      ap (λ (b : ℕ). Q (rowAt s (b + n)) (givenAt s b rules (b + n) x y)) (v .first)
+      ∙ ap (λ (r : ℕ). Q (nodeRow s h n) (givenAt s (firstNode h) r (firstNode h + n) x y)) (v .cited)
+      ∙ ap (λ (z : Item). Q (nodeRow s h n) (givenAt s (firstNode h) (h .rules) (firstNode h + n) z y)) (p ∙ ap (λ (l : List ℕ). pick item none l 0) (sym e))
+      ∙ ap (λ (z : Item). Q (nodeRow s h n) (givenAt s (firstNode h) (h .rules) (firstNode h + n) (pick item none (childrenOf s h n) 0) z)) (q ∙ ap (λ (l : List ℕ). pick item none l 1) (sym e))
+
+  -- its row takes what it is given, and gives its item
+  pub record Ranged (x y : Item) : Type 0 where
+    pub takes : rowAt s (base + n) .takes (givenAt s base rules (base + n) x y) ≡ true
+    pub gives : rowAt s (base + n) .gives (givenAt s base rules (base + n) x y) ≡ item n
+
+  range-as : (x y : Item) (cs : List ℕ) → childrenOf s (headerOf s) n ≡ cs → x ≡ pick item none cs 0 → y ≡ pick item none cs 1 → Ranged x y
+  range-as x y cs e p q =
+      let o = node-ok s (headerOf s) n (v .accepted .nodes n (v .exists)) in
+      record { takes = met (λ (r : Row) (g : Given). r .takes g) x y cs e p q ∙ o .takes; gives = met (λ (r : Row) (g : Given). r .gives g) x y cs e p q ∙ sym (o .item) }
 
   module _ (c : Kids) (k : kids c ≡ childrenAt s (base + n)) where
-    pub range-none : c .count ≡ 0 → from base rules none none ≡ item n
+    pub range-none : c .count ≡ 0 → Ranged none none
     unfolding pick
-    range-none e = met none none [] (none-named (ranged v) c k e) refl refl
+    range-none e = range-as none none [] (none-named (ranged v) c k e) refl refl
 
-    pub range-one : {x : Item} → c .count ≡ 1 → x ≡ item (c .first) → from base rules x none ≡ item n
+    pub range-one : {x : Item} → c .count ≡ 1 → x ≡ item (c .first) → Ranged x none
     unfolding pick
-    range-one e p = met _ none (c .first ∷ []) (one-named (ranged v) c k e) p refl
+    range-one e p = range-as _ none (c .first ∷ []) (one-named (ranged v) c k e) p refl
 
-    pub range-two : {x y : Item} → (c .count ≡ 0 → ⊥) → (c .count ≡ 1 → ⊥) → x ≡ item (c .first) → y ≡ item (c .second) → from base rules x y ≡ item n
+    pub range-two : {x y : Item} → (c .count ≡ 0 → ⊥) → (c .count ≡ 1 → ⊥) → x ≡ item (c .first) → y ≡ item (c .second) → Ranged x y
     unfolding pick
-    range-two d e p q = met _ _ (c .first ∷ c .second ∷ []) (two-named (ranged v) c k d e) p q
+    range-two d e p q = range-as _ _ (c .first ∷ c .second ∷ []) (two-named (ranged v) c k d e) p q

@@ -7,9 +7,9 @@ ghost use lib.ListN.{length, getD};
 ghost use Rattle.signed.specs.Words.{bounded, within as inRange, num as wordNumber};
 ghost use Rattle.signed.specs.Compare.{holds as comparison};
 ghost use Rattle.layout.specs.Header.{headerOf};
-ghost use Rattle.item.specs.Items.{Small};
+ghost use Rattle.item.specs.Items.{Small, span as itemSpan};
 ghost use Rattle.node.specs.Rows.{bit, isTrue, rowOf};
-ghost use Rattle.node.specs.Judged.{kids, judged};
+ghost use Rattle.node.specs.Judged.{kids, Ready};
 ghost use Rattle.records.specs.Nodes.{itemOf};
 ghost use Rattle.records.specs.Accepted.{Accepted};
 ghost use Rattle.facts.specs.Assembled.{FactsIn};
@@ -18,13 +18,19 @@ ghost use Rattle.predicate.specs.Base.{rowAt, childrenAt, seen, seenAt, 
 ghost use Rattle.predicate.specs.Verdicts.{verdictsOf};
 ghost use Rattle.predicate.specs.Sizes.{treeSize};
 use item::Item;
+use item::both;
+use item::compared;
+use item::difference;
+use item::either;
+use item::multiple;
+use item::negation;
 use item::span;
+use item::sum;
 use layout::Header;
 use layout::Node;
 use node::Given;
 use node::Kids;
 use node::children;
-use node::judge;
 use records::fact_sort;
 use signed::holds;
 use signed::num;
@@ -213,15 +219,50 @@ fn named_fact(s: &[i64], base: usize, f: usize) -> Item
     }
 }
 
-// The type and range of the node in record k, where it is good, from those of its children. There are `base` facts.
+// The type and range of a literal: its type is t and what word 2 adds.
+fn literal_range(w: Words, t: usize) -> Item
+    requires { ⌜ (t ≤ 2) × (wordNumber (w .w2) ≤ 127) ⌝ }
+    ensures { λ r. ⌜ r ≡ itemSpan (t + wordNumber (w .w2)) (w .w1) (w .w1) ⌝ }
+{
+    span(t + num(w.w2), w.w1, w.w1)
+}
+
+// The type and range of a node of kind number k that its row takes.
+fn range_from(k: usize, g: Given) -> Item
+    requires { ⌜ Ready g × (rowOf k .takes g ≡ true) ⌝ }
+    ensures { λ r. ⌜ r ≡ rowOf k .gives g ⌝ }
+{
+    let w = g.words;
+    let f = g.fact;
+    let x = g.x;
+    let y = g.y;
+    match k {
+        0 => literal_range(w, 1),
+        1 => literal_range(w, 0),
+        2 => literal_range(w, 2),
+        3 => f,
+        4 => sum(x, y),
+        5 => difference(x, y),
+        6 => multiple(w.w2, x),
+        7 => compared(num(w.w1), x, y),
+        8 => span(0, 0, 1),
+        9 => both(x, y),
+        10 => either(x, y),
+        11 => negation(x),
+        12.. => span(0, 0, 0),
+    }
+}
+
+// The type and range of the node in record k, which is good, from those of its children. There are `base` facts.
 fn range_at(s: &[i64], base: usize, rules: usize, k: usize, x: Item, y: Item) -> Item
     requires { ⌜ BaseOf (now s) base × (16 + 8 * k + 8 ≤ length (now s)) ⌝ }
     requires { ⌜ Small x × Small y ⌝ }
-    ensures { λ r. ⌜ r ≡ judged (rowAt (now (s .entry)) k) (givenAt (now (s .entry)) base rules k x y) .item ⌝ }
+    requires { ⌜ rowAt (now s) k .takes (givenAt (now s) base rules k x y) ≡ true ⌝ }
+    ensures { λ r. ⌜ r ≡ rowAt (now (s .entry)) k .gives (givenAt (now (s .entry)) base rules k x y) ⌝ }
 {
     let words = words_at(s, k);
     let fact = named_fact(s, base, num(words.w1));
-    let found = judge(
+    range_from(
         num(words.w0),
         Given {
             words,
@@ -231,8 +272,7 @@ fn range_at(s: &[i64], base: usize, rules: usize, k: usize, x: Item, y: Item) ->
             x,
             y,
         },
-    );
-    found.item
+    )
 }
 
 // The type and value range of a node from those of its children.

@@ -45,7 +45,7 @@ use raw::Answer;
 pub use refusal::Refusal;
 
 /// The bytes of stack that a call may need, measured on x86-64 and rounded up: the header's `FERNPOCKET_STACK`.
-pub const STACK: usize = 448 * 1024;
+pub const STACK: usize = 224 * 1024;
 
 /// How a flow's path ends.
 #[derive(Clone, Copy, Debug, PartialEq, Eq, Hash)]

@@ -49,15 +49,21 @@ item-at-span-requires t c κs = search needs
 item-at-range-at-requires : (t : ℕ) → item-at-lts.Need-range-at-requires (calls t) (item-at-at t) item-at.Post
 item-at-range-at-requires t c κs =
     let at-span = c .before .before in
-    let at-start = at-span .before .before .before in
-    ((base-of (at-start .pre .1), held (ranged (at-start .pre .1))), (rw (at-span .span .ensures) none-small, rw (at-span .span .ensures) none-small))
+    let at-kids-at = at-span .before in
+    let at-start = at-kids-at .before .before in (
+      (base-of (at-start .pre .1), held (ranged (at-start .pre .1))),
+      (
+        (rw (at-span .span .ensures) none-small, rw (at-span .span .ensures) none-small),
+        rw (at-span .span .ensures) (range-none (at-start .pre .1) _ (at-kids-at .kids-at .ensures) (c .if1 .taken) .takes),
+      ),
+    )
 
 item-at-returns : (t : ℕ) → item-at-lts.Need-returns (calls t) (item-at-at t) item-at.Post
 item-at-returns t c =
     let at-span = c .before .before .before in
     let at-kids-at = at-span .before in
     let at-start = at-kids-at .before .before in
-    rw (c .range-at .ensures, at-span .span .ensures) (range-none (at-start .pre .1) _ (at-kids-at .kids-at .ensures) (c .before .if1 .taken))
+    rw (c .range-at .ensures, at-span .span .ensures) (range-none (at-start .pre .1) _ (at-kids-at .kids-at .ensures) (c .before .if1 .taken) .gives)
 
 item-at-item-at-requires : (t : ℕ) → item-at-lts.Need-item-at-requires (calls t) (item-at-at t) item-at.Post
 item-at-item-at-requires t c κs =
@@ -75,9 +81,13 @@ item-at-range-at-requires-2 t c κs =
     let at-start = at-kids-at .before .before in (
       (base-of (at-start .pre .1), held (ranged (at-start .pre .1))),
       (
-        rw (at-item-at .item-at .ensures) (item-small
-            (lower-range (at-start .pre .1) (first-before (ranged (at-start .pre .1)) _ (at-kids-at .kids-at .ensures) (at-if1 .if1 .left)))),
-        rw (at-span .span .ensures) none-small,
+        (
+          rw (at-item-at .item-at .ensures) (item-small
+              (lower-range (at-start .pre .1) (first-before (ranged (at-start .pre .1)) _ (at-kids-at .kids-at .ensures) (at-if1 .if1 .left)))),
+          rw (at-span .span .ensures) none-small,
+        ),
+        rw (at-span .span .ensures)
+            (range-one (at-start .pre .1) _ (at-kids-at .kids-at .ensures) (c .if2 .taken) (at-item-at .item-at .ensures) .takes),
       ),
     )
 
@@ -88,7 +98,7 @@ item-at-returns-2 t c =
     let at-kids-at = at-span .before in
     let at-start = at-kids-at .before .before in
     rw (c .range-at2 .ensures, at-span .span .ensures)
-    (range-one (at-start .pre .1) _ (at-kids-at .kids-at .ensures) (c .before .if2 .taken) (at-item-at .item-at .ensures))
+    (range-one (at-start .pre .1) _ (at-kids-at .kids-at .ensures) (c .before .if2 .taken) (at-item-at .item-at .ensures) .gives)
 
 item-at-item-at-requires-2 : (t : ℕ) → item-at-lts.Need-item-at-requires-2 (calls t) (item-at-at t) item-at.Post
 item-at-item-at-requires-2 t c κs =
@@ -106,10 +116,14 @@ item-at-range-at-requires-3 t c κs =
     let at-start = at-kids-at .before .before in (
       (base-of (at-start .pre .1), held (ranged (at-start .pre .1))),
       (
-        rw (at-item-at .item-at .ensures) (item-small
-            (lower-range (at-start .pre .1) (first-before (ranged (at-start .pre .1)) _ (at-kids-at .kids-at .ensures) (at-if1 .if1 .left)))),
-        rw (c .item-at2 .ensures) (item-small (lower-range (at-start .pre .1)
-            (second-before (ranged (at-start .pre .1)) _ (at-kids-at .kids-at .ensures) (at-if1 .if1 .left) (c .before .if2 .left)))),
+        (
+          rw (at-item-at .item-at .ensures) (item-small
+              (lower-range (at-start .pre .1) (first-before (ranged (at-start .pre .1)) _ (at-kids-at .kids-at .ensures) (at-if1 .if1 .left)))),
+          rw (c .item-at2 .ensures) (item-small (lower-range (at-start .pre .1)
+              (second-before (ranged (at-start .pre .1)) _ (at-kids-at .kids-at .ensures) (at-if1 .if1 .left) (c .before .if2 .left)))),
+        ),
+        range-two (at-start .pre .1) _ (at-kids-at .kids-at .ensures) (at-if1 .if1 .left) (c .before .if2 .left) (at-item-at .item-at .ensures)
+            (c .item-at2 .ensures) .takes,
       ),
     )
 
@@ -121,7 +135,7 @@ item-at-returns-3 t c =
     let at-kids-at = at-if1 .before .before .before in
     let at-start = at-kids-at .before .before in
     rw (c .range-at3 .ensures) (range-two (at-start .pre .1) _ (at-kids-at .kids-at .ensures) (at-if1 .if1 .left) (at-if2 .if2 .left)
-    (at-item-at .item-at .ensures) (c .before .item-at2 .ensures))
+    (at-item-at .item-at .ensures) (c .before .item-at2 .ensures) .gives)
 
 pub +item-at-spec : {M : Type 1} → statement M
 +item-at-spec = close μ-item-at λ t. item-at-lts.spec (calls t)

@@ -16,20 +16,34 @@ named-fact-requires c κs = search needs
 num-requires-2 : tie.Need-num-requires-2
 num-requires-2 c κs = search needs
 
-judge-requires : tie.Need-judge-requires
-judge-requires c κs = search needs
+range-from-requires : tie.Need-range-from-requires
+range-from-requires c κs =
+    let at-named-fact = c .before .before in
+    let at-num = at-named-fact .before in
+    let at-struct-told = at-num .before in
+    let at-words-at = at-struct-told .before in
+    let at-start = at-words-at .before in (
+      record { x = at-start .pre .1 .0 .0; y = at-start .pre .1 .0 .1 },
+      rw (
+        c .num2 .ensures,
+        back-of (at-words-at .words-at .result .w0) (c .before .struct-told2 .given .0 .1),
+        at-named-fact .named-fact .ensures,
+        at-num .num .ensures,
+        back-of (at-words-at .words-at .result .w1) (at-struct-told .struct-told .given .1 .0 .1),
+        at-words-at .words-at .ensures,
+      ) (at-start .pre .1 .1),
+    )
 
 returns : tie.Need-returns
 returns c =
-    let at-num2 = c .before .before in
-    let at-struct-told2 = at-num2 .before in
+    let at-struct-told2 = c .before .before in
     let at-named-fact = at-struct-told2 .before in
     let at-num = at-named-fact .before in
     let at-struct-told = at-num .before in
     let at-words-at = at-struct-told .before in
     rw (
-      c .before .judge .ensures,
-      at-num2 .num2 .ensures,
+      c .range-from .ensures,
+      c .before .num2 .ensures,
       back-of (at-words-at .words-at .result .w0) (at-struct-told2 .struct-told2 .given .0 .1),
       at-named-fact .named-fact .ensures,
       at-num .num .ensures,
@@ -45,5 +59,5 @@ range-at-spec =
     num-requires
     named-fact-requires
     num-requires-2
-    judge-requires
+    range-from-requires
     returns)
