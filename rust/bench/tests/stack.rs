@@ -14,7 +14,8 @@ fn the_stack_suffices() {
 
 #[test]
 fn half_of_it_does_not() {
-    let output = Command::new(env!("CARGO_BIN_EXE_stack")).args(["admissible", &(fernpocket::STACK / 2).to_string()]).output();
+    let output =
+        Command::new(env!("CARGO_BIN_EXE_stack")).args(["admissible", &(fernpocket::STACK / 2).to_string()]).output();
     assert!(
         !output.unwrap().status.success(),
         "the documents ask for twice the stack that is needed, or nothing is tried"
