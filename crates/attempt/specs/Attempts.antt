@@ -8,7 +8,7 @@ use Rattle.answer.specs.declared.Refusal.the-variants.{Persona, Precondition, N
 use Rattle.answer.specs.declared.Count.{Count}
 use Rattle.answer.specs.declared.Count.the-variants.{Is, Refused}
 use Rattle.layout.specs.declared.Header.{Header}
-use Rattle.layout.specs.Tables.{operation}
+use Rattle.layout.specs.Tables.{operation, preconditionOf}
 use Rattle.facts.specs.Assembled.{FactsIn}
 use Rattle.predicate.specs.Values.{truth, Truths}
 use Rattle.operation.specs.declared.Choice.the-variants.{Outcome, Nothing}
@@ -18,7 +18,7 @@ use Rattle.operation.specs.Changes.{applied}
 use Rattle.operation.specs.Ready.{Ready}
 
 abbrev pub precondition : List ℤ → Header → ℕ → ℕ
-precondition s h o = operation s h o .w1
+precondition s h o = preconditionOf (operation s h o)
 
 -- what an attempt asks: an accepted sheet, facts in their ranges, verdicts, states of their entities, a persona and an operation
 pub record Attemptable (s : List ℤ) (h : Header) (facts verdicts states : List ℤ) (p o : ℕ) : Type 0 where

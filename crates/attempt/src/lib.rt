@@ -13,6 +13,7 @@ use layout::Header;
 use layout::Node;
 use layout::Operation;
 use layout::Persona;
+use layout::place;
 use operation::Choice;
 use operation::allows;
 use operation::perform;
@@ -25,7 +26,7 @@ fn precondition(s: &[i64], h: Header, o: Operation) -> Node
     requires { ⌜ o .0 < h .operations ⌝ }
     ensures { λ n. ⌜ n .0 ≡ precondition (now (s .entry)) h (o .0) ⌝ }
 {
-    Node(number(s, h.first_operation() + o.0, 1))
+    Node(number(s, h.first_operation() + o.0, place::OPERATION_PRECONDITION))
 }
 
 // Whether an operation's precondition is true.

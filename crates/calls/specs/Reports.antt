@@ -11,7 +11,7 @@ use Rattle.answer.specs.declared.Status.the-variants.{Done}
 use Rattle.answer.specs.declared.Count.{Count}
 use Rattle.answer.specs.declared.Count.the-variants.{Is, Refused as NoCount}
 use Rattle.layout.specs.declared.Header.{Header}
-use Rattle.layout.specs.Tables.{operation}
+use Rattle.layout.specs.Tables.{operation, outcomesOf}
 use Rattle.records.specs.Rules.{stratum}
 use Rattle.records.specs.Entities.{states}
 use Rattle.predicate.specs.Sizes.{treeSize}
@@ -73,7 +73,7 @@ stratumAnswer s r = reported s (λ h. exists r (h .rules)) (λ h. stratum s h (n
 
 -- "the number of an operation's outcomes"
 abbrev pub outcomes : List ℤ → Header → ℕ → ℕ
-outcomes s h o = operation s h o .w4
+outcomes s h o = outcomesOf (operation s h o)
 
 abbrev pub outcomesAnswer : List ℤ → ℤ → Count
 outcomesAnswer s o = reported s (λ h. exists o (h .operations)) (λ h. outcomes s h (num o))

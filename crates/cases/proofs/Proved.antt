@@ -42,7 +42,7 @@ use Rattle.calls.specs.Flows.{pathLent, runRungs, flowRungs}
 use Rattle.calls.specs.Lists.{publicCall, publicCalls}
 use Rattle.reach.specs.Inner.{settled, nextOpen}
 use Rattle.reach.specs.Moves.{leaves}
-use Rattle.reach.specs.Reached.{enters, round, flagged, maskOf, reachable}
+use Rattle.reach.specs.Reached.{enters, round, flagged, maskBelow, reachable}
 use Rattle.causes.specs.Causes.{effectPasses}
 use Rattle.calls.specs.Reports.{reportRungs}
 use Rattle.decimal.specs.Decimal.{digitsIn, digits, sign, decimal, hasText, magnitude, value}
@@ -53,5 +53,5 @@ use Rattle.cases.specs.Sheets.{whole, sixRoutes, thirdOutcome, sumWith}
 use Rattle.cases.specs.CaseTable.{row, same, wrong, listed, ranFrom, judged, assembledWith, cases, wrote}
 
 pub none-wrong : wrong cases ≡ []
-unfolding holds canHold canFail eqZ within bounded num minZ maxZ recordAt wordsAt numbersOf unused allBelow anyBelow sumBelow firstFail grown entry goodGroup goodGroups headerOf inLimits goodFrame goodHeader has allOf distinct joined-lists pick small factTypeOf rowOf fits tablesOf goodIn firstBad checked goodEntity goodChange goodTransition sameChange declared goodDefault agree goodFact goodFlow goodOperationStep goodBranchStep goodStep flowOf stepOf goodRouteOf goodRoute namedByRules namedByOperations namedBySteps goodRoot itemStep itemOf treeStep treeOf namedByNodes goodChildren goodNode goodMask goodOperation operationOf goodOutcome sameSource goodEffectOf goodEffect citesLower goodRule taken-facts assembled factFault firstRefused factsFault valueStep valueOf verdictsTo verdictsOf mover newState applied allowed ofOutcome starts moves matched unblocked applicable firstApplicable chosen stateIn firstStray statesFault attemptedIf attempted statesAfter attemptedStates begins headOf following laid firstWalk firstLaid answerOf bufferOf nextWalk nextLaid greatest depth firstRouteOf routesOf ends target lastOf terminal onward inTurn pathsFrom paths path started taken-listing answerRoute branchRoute routeTaken statesThen begun stepped runOn ran ranWalk ranPath ranStates then unless reached by climb assembleRungs pathLent runRungs flowRungs publicCall publicCalls settled nextOpen leaves enters round flagged maskOf reachable effectPasses reportRungs whole sixRoutes thirdOutcome sumWith row same wrong listed ranFrom judged assembledWith cases opened digitsIn digits sign decimal hasText magnitude value before judged-text all join line goodRow rows rowsOf textOf joined cut linesOf numbers wordsOf same-text goodLine refusedLine pathLine flowLines flowsLines sheetLines textCount wordsEntrance entrance written output wrote
+unfolding holds canHold canFail eqZ within bounded num minZ maxZ recordAt wordsAt numbersOf unused allBelow anyBelow sumBelow firstFail grown entry goodGroup goodGroups headerOf inLimits goodFrame goodHeader has allOf distinct joined-lists pick small factTypeOf rowOf fits tablesOf goodIn firstBad checked goodEntity goodChange goodTransition sameChange declared goodDefault agree goodFact goodFlow goodOperationStep goodBranchStep goodStep flowOf stepOf goodRouteOf goodRoute namedByRules namedByOperations namedBySteps goodRoot itemStep itemOf treeStep treeOf namedByNodes goodChildren goodNode goodMask goodOperation operationOf goodOutcome sameSource goodEffectOf goodEffect citesLower goodRule taken-facts assembled factFault firstRefused factsFault valueStep valueOf verdictsTo verdictsOf mover newState applied allowed ofOutcome starts moves matched unblocked applicable firstApplicable chosen stateIn firstStray statesFault attemptedIf attempted statesAfter attemptedStates begins headOf following laid firstWalk firstLaid answerOf bufferOf nextWalk nextLaid greatest depth firstRouteOf routesOf ends target lastOf terminal onward inTurn pathsFrom paths path started taken-listing answerRoute branchRoute routeTaken statesThen begun stepped runOn ran ranWalk ranPath ranStates then unless reached by climb assembleRungs pathLent runRungs flowRungs publicCall publicCalls settled nextOpen leaves enters round flagged maskBelow reachable effectPasses reportRungs whole sixRoutes thirdOutcome sumWith row same wrong listed ranFrom judged assembledWith cases opened digitsIn digits sign decimal hasText magnitude value before judged-text all join line goodRow rows rowsOf textOf joined cut linesOf numbers wordsOf same-text goodLine refusedLine pathLine flowLines flowsLines sheetLines textCount wordsEntrance entrance written output wrote
 none-wrong = refl

@@ -9,7 +9,7 @@ use Rattle.tables.specs.Scan.{anyBelow}
 use Rattle.signed.specs.Words.{within}
 use Rattle.words.specs.declared.Record.{Record}
 use Rattle.layout.specs.declared.Header.{Header}
-use Rattle.layout.specs.Tables.{operation, effect}
+use Rattle.layout.specs.Tables.{operation, effect, preconditionOf, effectStartOf}
 use Rattle.item.specs.declared.Item.{Item}
 use Rattle.records.specs.Nodes.{itemOf}
 use Rattle.records.specs.Operations.{effectsEnd}
@@ -18,7 +18,7 @@ use Rattle.reach.specs.Moves.{leaves, leads}
 
 -- effect e is one of operation o's, and passes the test f
 unfoldable pub effectPasses : List ℤ → Header → ℕ → (Record → Bool) → ℕ → Bool
-effectPasses s h o f e = leb (operation s h o .w2) e && ltb e (effectsEnd s h o) && f (effect s h e)
+effectPasses s h o f e = leb (effectStartOf (operation s h o)) e && ltb e (effectsEnd s h o) && f (effect s h e)
 
 -- some effect of operation o passes the test f
 unfoldable pub someEffect : List ℤ → Header → ℕ → (Record → Bool) → Bool
@@ -35,7 +35,7 @@ includesOne x = within (x .low) (pos 1) (x .high)
 
 -- "the precondition's range includes 1"
 unfoldable pub canBeTrue : List ℤ → Header → ℕ → Bool
-canBeTrue s h o = includesOne (itemOf s h (operation s h o .w1))
+canBeTrue s h o = includesOne (itemOf s h (preconditionOf (operation s h o)))
 
 -- S3a: "yes for (entity, state, persona, operation) if the mask has the persona, an effect starts from that state of that entity, and the
 -- precondition's range includes 1"

@@ -8,6 +8,7 @@ use layout::Header;
 use layout::Node;
 use layout::Operation;
 use layout::Persona;
+use layout::place;
 use operation::allows;
 use operation::effects_of;
 use predicate::can_hold;
@@ -56,7 +57,11 @@ fn can_be_true(s: &[i64], h: Header, o: Operation) -> bool
     requires { ⌜ o .0 < h .operations ⌝ }
     ensures { λ t. ⌜ t ≡ canBeTrue (now (s .entry)) h (o .0) ⌝ }
 {
-    can_hold(s, h, Node(number(s, h.first_operation() + o.0, 1)))
+    can_hold(
+        s,
+        h,
+        Node(number(s, h.first_operation() + o.0, place::OPERATION_PRECONDITION)),
+    )
 }
 
 // S3a. The range is worked out last, and only where the rest holds.

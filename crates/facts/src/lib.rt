@@ -11,6 +11,7 @@ ghost use Rattle.facts.specs.Assembled.{taken, assembled};
 use answer::Refusal;
 use answer::Status;
 use layout::Header;
+use layout::place;
 use signed::same;
 use signed::within;
 use words::number;
@@ -21,7 +22,7 @@ fn given_in_range(s: &[i64], k: usize, x: i64, g: i64) -> bool
     requires { ⌜ 16 + 8 * k + 8 ≤ length (now s) ⌝ }
     ensures { λ b. ⌜ b ≡ (eqZ g (pos 1) && inFact (now (s .entry)) k x) ⌝ }
 {
-    same(g, 1) & within(word(s, k, 1), x, word(s, k, 2))
+    same(g, 1) & within(word(s, k, place::FACT_MIN), x, word(s, k, place::FACT_MAX))
 }
 
 // Refusals 6 and 7 of fact k alone.
@@ -30,7 +31,7 @@ fn fact_fault(s: &[i64], k: usize, x: i64, g: i64) -> Status
     ensures { λ r. ⌜ r ≡ factFault (now (s .entry)) k x g ⌝ }
 {
     if same(g, 0) {
-        if number(s, k, 3) == 1 {
+        if number(s, k, place::FACT_HAS_DEFAULT) == 1 {
             Status::Done
         } else {
             Status::Refused(Refusal::FactAbsent(k))
@@ -62,7 +63,12 @@ fn take_fact(s: &[i64], k: usize, x: i64, g: i64) -> i64
     requires { ⌜ 16 + 8 * k + 8 ≤ length (now s) ⌝ }
     ensures { λ r. ⌜ r ≡ taken (now (s .entry)) k x g ⌝ }
 {
-    if same(g, 0) { word(s, k, 4) } else { x }
+    let absent = same(g, 0);
+    if absent {
+        word(s, k, place::FACT_DEFAULT)
+    } else {
+        x
+    }
 }
 
 // Puts the defaults into the lent values of the facts that are not given.

@@ -13,7 +13,7 @@ use Rattle.answer.specs.Number.{doneAnswer}
 use Rattle.answer.specs.Answers.{statusAnswer, countAnswer, walkAnswer}
 use Rattle.layout.specs.declared.Header.{Header}
 use Rattle.layout.specs.Header.{headerOf}
-use Rattle.layout.specs.Tables.{operation, effect}
+use Rattle.layout.specs.Tables.{operation, effect, toOf, outcomesOf}
 use Rattle.records.specs.Accept.{checked}
 use Rattle.facts.specs.Assembled.{assembled}
 use Rattle.predicate.specs.Values.{truth}
@@ -74,7 +74,7 @@ pub record RanPath (s values given states : List ℤ) (f : ℤ) (b : List ℕ) :
 -- the state of entity n after outcome j of operation o: where an effect of that outcome leads that starts from its present state, or, where
 -- none does, what it was
 pub data After (s : List ℤ) (h : Header) (states : List ℤ) (o j n : ℕ) (state : ℤ) : Type 0 where
-  moved : (e : ℕ) → moves s h states o j n e ≡ true → state ≡ pos (effect s h e .w2) → After s h states o j n state
+  moved : (e : ℕ) → moves s h states o j n e ≡ true → state ≡ pos (toOf (effect s h e)) → After s h states o j n state
   stayed : ((e : ℕ) → moves s h states o j n e ≡ true → ⊥) → state ≡ getD states n (pos 0) → After s h states o j n state
 
 -- an operation went through with outcome j: the mask has the persona, the precondition is true, j is the first applicable outcome in declared
@@ -84,7 +84,7 @@ pub record Operated (s values given states : List ℤ) (p o : ℤ) (j : ℕ) : T
   pub holds :
       truth s (headerOf s) (assembled s (headerOf s) values given) (verdictsOf s (headerOf s) (assembled s (headerOf s) values given))
       (precondition s (headerOf s) (num o)) ≡ true
-  pub exists : j < operation s (headerOf s) (num o) .w4
+  pub exists : j < outcomesOf (operation s (headerOf s) (num o))
   pub applies : applicable s (headerOf s) states (num o) j ≡ true
   pub earlier : (i : ℕ) → i < j → applicable s (headerOf s) states (num o) i ≡ false
   pub each : (n : ℕ) → n < headerOf s .entities

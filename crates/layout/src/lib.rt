@@ -6,6 +6,9 @@ ghost use Rattle.words.specs.Record.{number};
 ghost use Rattle.layout.specs.Header.{headerOf, inLimits, goodFrame, goodHeader, records, firstRule, firstEntity, firstTransition, firstOperation, firstEffect, firstFlow, firstStep, firstRoute};
 ghost use Rattle.layout.specs.Groups.{goodGroup, goodGroups};
 ghost use Rattle.layout.specs.Sized.{Limits, Sized, Owners};
+
+pub mod place;
+
 use words::number;
 use words::number_at;
 
@@ -210,7 +213,13 @@ pub fn good_groups(s: &[i64], h: Header) -> bool
     requires { ⌜ Sized (now s) h ⌝ }
     ensures { λ b. ⌜ b ≡ goodGroups (now (s .entry)) h ⌝ }
 {
-    good_group(s, h.first_operation(), 3, h.operations, h.effects)
-        & good_group(s, h.first_flow(), 1, h.flows, h.steps)
-        & good_group(s, h.first_step(), 4, h.steps, h.routes)
+    good_group(
+        s,
+        h.first_operation(),
+        place::OPERATION_EFFECTS,
+        h.operations,
+        h.effects,
+    )
+        & good_group(s, h.first_flow(), place::FLOW_STEPS, h.flows, h.steps)
+        & good_group(s, h.first_step(), place::STEP_ROUTES, h.steps, h.routes)
 }

@@ -8,21 +8,21 @@ use lib.IntN.{ℤ}
 use lib.ListN.{length, getD}
 use lib.Dec.{eqb}
 use Rattle.layout.specs.declared.Header.{Header}
-use Rattle.layout.specs.Tables.{flow, step, route}
+use Rattle.layout.specs.Tables.{flow, step, route, stepStartOf, stepCountOf, kindOf, routeStartOf, routeCountOf, targetOf}
 
 -- the first step of flow f, and how many it has
 abbrev pub firstStepOf : List ℤ → Header → ℕ → ℕ
-firstStepOf s h f = flow s h f .w0
+firstStepOf s h f = stepStartOf (flow s h f)
 
 abbrev pub stepsOf : List ℤ → Header → ℕ → ℕ
-stepsOf s h f = flow s h f .w1
+stepsOf s h f = stepCountOf (flow s h f)
 
 -- the first route of step i, and how many it has
 unfoldable pub firstRouteOf : List ℤ → Header → ℕ → ℕ
-firstRouteOf s h i = step s h i .w3
+firstRouteOf s h i = routeStartOf (step s h i)
 
 unfoldable pub routesOf : List ℤ → Header → ℕ → ℕ
-routesOf s h i = step s h i .w4
+routesOf s h i = routeCountOf (step s h i)
 
 -- where its routes end
 abbrev pub routesEndOf : List ℤ → Header → ℕ → ℕ
@@ -30,10 +30,10 @@ routesEndOf s h i = firstRouteOf s h i + routesOf s h i
 
 -- whether route r ends at a terminal; the step or the terminal that it leads to
 unfoldable pub ends : List ℤ → Header → ℕ → Bool
-ends s h r = eqb (route s h r .w0) 1
+ends s h r = eqb (kindOf (route s h r)) 1
 
 unfoldable pub target : List ℤ → Header → ℕ → ℕ
-target s h r = route s h r .w1
+target s h r = targetOf (route s h r)
 
 -- r is a route of step i
 pub record RouteOf (s : List ℤ) (h : Header) (i r : ℕ) : Type 0 where
@@ -42,8 +42,8 @@ pub record RouteOf (s : List ℤ) (h : Header) (i r : ℕ) : Type 0 where
 
 -- a path from step i: the first is a route of that step; one of kind 0 is followed by one of the step it names; one of kind 1 ends the path
 pub data PathFrom (s : List ℤ) (h : Header) : ℕ → List ℕ → Type 0 where
-  last : {i r : ℕ} → RouteOf s h i r → route s h r .w0 ≡ 1 → PathFrom s h i (r ∷ [])
-  next : {i r : ℕ} {p : List ℕ} → RouteOf s h i r → route s h r .w0 ≡ 0 → PathFrom s h (route s h r .w1) p → PathFrom s h i (r ∷ p)
+  last : {i r : ℕ} → RouteOf s h i r → kindOf (route s h r) ≡ 1 → PathFrom s h i (r ∷ [])
+  next : {i r : ℕ} {p : List ℕ} → RouteOf s h i r → kindOf (route s h r) ≡ 0 → PathFrom s h (targetOf (route s h r)) p → PathFrom s h i (r ∷ p)
 
 -- a path of flow f starts at the flow's first step
 abbrev pub PathOf : List ℤ → Header → ℕ → List ℕ → Type 0

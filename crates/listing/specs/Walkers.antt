@@ -9,7 +9,7 @@ use lib.ListN.{getD}
 use Rattle.answer.specs.declared.Walk.{Walk}
 use Rattle.answer.specs.declared.Walk.the-variants.{Path as Walked}
 use Rattle.layout.specs.declared.Header.{Header}
-use Rattle.layout.specs.Tables.{flow}
+use Rattle.layout.specs.Tables.{flow, stepStartOf}
 use Rattle.records.specs.Accepted.{Accepted}
 use Rattle.records.specs.Flows.{stepsEnd}
 use Rattle.listing.specs.declared.Walker.{Walker}
@@ -17,7 +17,7 @@ use Rattle.listing.specs.Paths.{ends, target, onward, pathsFrom}
 
 -- a walk starts at a flow's first step
 unfoldable pub started : List ℤ → Header → ℕ → Walker
-started s h f = record { step = flow s h f .w0; length = 0; finished = false }
+started s h f = record { step = stepStartOf (flow s h f); length = 0; finished = false }
 
 -- it takes a route, and comes to the step or the terminal that the route leads to
 unfoldable pub taken : List ℤ → Header → Walker → ℕ → Walker
@@ -52,7 +52,7 @@ firstWay s h w = getD (remaining s h w) 0 []
 pub record Way (s : List ℤ) (h : Header) (i n : ℕ) : Type 0 where
   pub of : ℕ
   pub exists : of < h .flows
-  pub low : flow s h of .w0 ≤ i
+  pub low : stepStartOf (flow s h of) ≤ i
   pub high : i < stepsEnd s h of
   pub left : stepsEnd s h of ≤ i + n
 

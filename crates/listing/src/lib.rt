@@ -15,6 +15,7 @@ use answer::Refusal;
 use answer::Walk;
 use layout::Flow;
 use layout::Header;
+use layout::place;
 use tables::entry;
 use words::number;
 
@@ -42,7 +43,7 @@ fn first_step(s: &[i64], h: Header, flow: Flow) -> usize
     ensures { λ r. ⌜ r ≡ firstStepOf (now (s .entry)) h (flow .0) ⌝ }
 {
     let f = flow.0;
-    number(s, h.first_flow() + f, 0)
+    number(s, h.first_flow() + f, place::FLOW_FIRST_STEP)
 }
 
 // How many steps a flow has: a path buffer is at least as long.
@@ -52,7 +53,7 @@ pub fn steps(s: &[i64], h: Header, flow: Flow) -> usize
     ensures { λ r. ⌜ r ≡ stepsOf (now (s .entry)) h (flow .0) ⌝ }
 {
     let f = flow.0;
-    number(s, h.first_flow() + f, 1)
+    number(s, h.first_flow() + f, place::FLOW_STEPS)
 }
 
 // The first route of a step; its routes follow each other.
@@ -61,7 +62,7 @@ pub fn first_route(s: &[i64], h: Header, step: usize) -> usize
     requires { ⌜ step < h .steps ⌝ }
     ensures { λ r. ⌜ r ≡ firstRouteOf (now (s .entry)) h step ⌝ }
 {
-    number(s, h.first_step() + step, 3)
+    number(s, h.first_step() + step, place::STEP_FIRST_ROUTE)
 }
 
 // How many routes a step has.
@@ -70,7 +71,7 @@ pub fn routes(s: &[i64], h: Header, step: usize) -> usize
     requires { ⌜ step < h .steps ⌝ }
     ensures { λ r. ⌜ r ≡ routesOf (now (s .entry)) h step ⌝ }
 {
-    number(s, h.first_step() + step, 4)
+    number(s, h.first_step() + step, place::STEP_ROUTES)
 }
 
 // Whether a route ends at a terminal.
@@ -79,7 +80,7 @@ fn ends(s: &[i64], h: Header, route: usize) -> bool
     requires { ⌜ route < h .routes ⌝ }
     ensures { λ r. ⌜ r ≡ ends (now (s .entry)) h route ⌝ }
 {
-    number(s, h.first_step() + h.steps + route, 0) == 1
+    number(s, h.first_step() + h.steps + route, place::ROUTE_KIND) == 1
 }
 
 // The step or the terminal that a route leads to.
@@ -88,7 +89,7 @@ fn target(s: &[i64], h: Header, route: usize) -> usize
     requires { ⌜ route < h .routes ⌝ }
     ensures { λ r. ⌜ r ≡ target (now (s .entry)) h route ⌝ }
 {
-    number(s, h.first_step() + h.steps + route, 1)
+    number(s, h.first_step() + h.steps + route, place::ROUTE_TARGET)
 }
 
 impl Walker {

@@ -9,7 +9,7 @@ use lib.Dec.{ltb}
 use Rattle.tables.specs.Scan.{firstFail}
 use Rattle.tables.specs.Table.{grown}
 use Rattle.layout.specs.declared.Header.{Header}
-use Rattle.layout.specs.Tables.{effect}
+use Rattle.layout.specs.Tables.{effect, toOf}
 use Rattle.operation.specs.declared.Choice.{Choice}
 use Rattle.operation.specs.declared.Choice.the-variants.{Outcome, Nothing}
 use Rattle.operation.specs.Outcomes.{moves, chosen}
@@ -21,7 +21,7 @@ mover s h states o j n = firstFail (λ e. not (moves s h states o j n e)) 0 (h .
 -- that effect's `to`; where there is none, entity n stays
 unfoldable pub newState : List ℤ → Header → List ℤ → ℕ → ℕ → ℕ → ℤ
 newState s h states o j n =
-    cond (ltb (mover s h states o j n) (h .effects)) (pos (effect s h (mover s h states o j n) .w2)) (getD states n (pos 0))
+    cond (ltb (mover s h states o j n) (h .effects)) (pos (toOf (effect s h (mover s h states o j n)))) (getD states n (pos 0))
 
 -- "exactly those effects are applied, all at once": the new state of each entity, all from the present ones
 unfoldable pub applied : List ℤ → Header → List ℤ → ℕ → ℕ → List ℤ

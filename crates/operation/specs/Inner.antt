@@ -9,7 +9,7 @@ use lib.ListN.{length, getD, set}
 use Rattle.tables.specs.Table.{marked}
 use Rattle.words.specs.declared.Record.{Record}
 use Rattle.layout.specs.declared.Header.{Header}
-use Rattle.layout.specs.Tables.{operation, effect}
+use Rattle.layout.specs.Tables.{operation, effect, entityOf, toOf, effectStartOf, outcomesOf}
 use Rattle.records.specs.Accepted.{Accepted}
 use Rattle.records.specs.Operations.{effectsEnd, outcome}
 use Rattle.operation.specs.declared.Effects.{Effects}
@@ -17,7 +17,7 @@ use Rattle.operation.specs.Outcomes.{ofOutcome, starts, matched}
 
 -- an operation's effects
 unfoldable pub effectsOf : List ℤ → Header → ℕ → Effects
-effectsOf s h o = record { first = operation s h o .w2; end = effectsEnd s h o; outcomes = operation s h o .w4 }
+effectsOf s h o = record { first = effectStartOf (operation s h o); end = effectsEnd s h o; outcomes = outcomesOf (operation s h o) }
 
 -- there is an effect e, and a state for each entity
 pub record Read (s : List ℤ) (h : Header) (states : List ℤ) (e : ℕ) : Type 0 where
@@ -27,9 +27,9 @@ pub record Read (s : List ℤ) (h : Header) (states : List ℤ) (e : ℕ) : Type
 
 -- outcome j of operation o starts at effect `at`: the operation's effects before it are of earlier outcomes, the others of j and later ones
 pub record At (s : List ℤ) (h : Header) (o j at : ℕ) : Type 0 where
-  pub low : operation s h o .w2 ≤ at
+  pub low : effectStartOf (operation s h o) ≤ at
   pub high : at ≤ effectsEnd s h o
-  pub before : (e : ℕ) → operation s h o .w2 ≤ e → e < at → outcome s h e < j
+  pub before : (e : ℕ) → effectStartOf (operation s h o) ≤ e → e < at → outcome s h e < j
   pub from : (e : ℕ) → at ≤ e → e < effectsEnd s h o → j ≤ outcome s h e
 
 -- a flag for each entity there may be, none of them set
@@ -48,9 +48,9 @@ pub record Collected (s : List ℤ) (h : Header) (states : List ℤ) (o j at sto
 
 -- an effect is taken: its entity has not moved yet, and it starts from the entity's state
 unfoldable pub taken : List ℤ → List Bool → Record → Bool
-taken states moved r = not (getD moved (r .w0) false) && starts states r
+taken states moved r = not (getD moved (entityOf r) false) && starts states r
 
 -- effect e has been looked at: where it is taken, its entity is in the state that it leads to, and is flagged as moved
 pub record Shifted (s : List ℤ) (h : Header) (e : ℕ) (states : List ℤ) (moved : List Bool) (states′ : List ℤ) (moved′ : List Bool) : Type 0 where
-  pub state : states′ ≡ cond (taken states moved (effect s h e)) (set states (effect s h e .w0) (pos (effect s h e .w2))) states
-  pub flag : moved′ ≡ marked (taken states moved (effect s h e)) (effect s h e .w0) moved
+  pub state : states′ ≡ cond (taken states moved (effect s h e)) (set states (entityOf (effect s h e)) (pos (toOf (effect s h e)))) states
+  pub flag : moved′ ≡ marked (taken states moved (effect s h e)) (entityOf (effect s h e)) moved

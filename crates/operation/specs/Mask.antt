@@ -6,7 +6,7 @@ use mathlib.Core.Bool.{Bool}
 use mathlib.Core.List.{List}
 use lib.Dec.{eqb}
 use Rattle.layout.specs.declared.Header.{Header}
-use Rattle.layout.specs.Tables.{operation}
+use Rattle.layout.specs.Tables.{operation, maskOf}
 
 -- "bit p is persona p"
 abbrev pub inMask : ℕ → ℕ → Bool
@@ -14,4 +14,4 @@ inMask mask p = eqb (mask / 2 ^ p % 2) 1
 
 -- refusal 9 is given exactly where this is false: persona p is in the mask of operation o
 unfoldable pub allowed : List ℤ → Header → ℕ → ℕ → Bool
-allowed s h o p = inMask (operation s h o .w0) p
+allowed s h o p = inMask (maskOf (operation s h o)) p

@@ -8,7 +8,7 @@ use lib.Dec.{leb, ltb, eqb}
 use Rattle.tables.specs.Scan.{allBelow, anyBelow, firstFail}
 use Rattle.words.specs.declared.Record.{Record}
 use Rattle.layout.specs.declared.Header.{Header}
-use Rattle.layout.specs.Tables.{operation, effect}
+use Rattle.layout.specs.Tables.{operation, effect, entityOf, fromOf, effectStartOf, outcomesOf}
 use Rattle.records.specs.Operations.{effectsEnd, outcome}
 use Rattle.operation.specs.declared.Choice.{Choice}
 use Rattle.operation.specs.declared.Choice.the-variants.{Outcome, Nothing}
@@ -16,15 +16,15 @@ use Rattle.operation.specs.States.{present}
 
 -- effect e is one of outcome j of operation o
 unfoldable pub ofOutcome : List ℤ → Header → ℕ → ℕ → ℕ → Bool
-ofOutcome s h o j e = leb (operation s h o .w2) e && ltb e (effectsEnd s h o) && eqb (outcome s h e) j
+ofOutcome s h o j e = leb (effectStartOf (operation s h o)) e && ltb e (effectsEnd s h o) && eqb (outcome s h e) j
 
 -- an effect starts from its entity's present state
 unfoldable pub starts : List ℤ → Record → Bool
-starts states r = eqb (r .w1) (present states (r .w0))
+starts states r = eqb (fromOf r) (present states (entityOf r))
 
 -- effect e is one of outcome j of operation o, and starts from the present state of entity n
 unfoldable pub moves : List ℤ → Header → List ℤ → ℕ → ℕ → ℕ → ℕ → Bool
-moves s h states o j n e = ofOutcome s h o j e && (starts states (effect s h e) && eqb (effect s h e .w0) n)
+moves s h states o j n e = ofOutcome s h o j e && (starts states (effect s h e) && eqb (entityOf (effect s h e)) n)
 
 -- "one of its effects starts from that entity's present state"
 unfoldable pub matched : List ℤ → Header → List ℤ → ℕ → ℕ → ℕ → Bool
@@ -32,7 +32,7 @@ matched s h states o j n = anyBelow (moves s h states o j n) (h .effects)
 
 -- effect e does not keep outcome j from being applied: it is not one of its effects, or the entity that it names is matched
 unfoldable pub unblocked : List ℤ → Header → List ℤ → ℕ → ℕ → ℕ → Bool
-unblocked s h states o j e = not (ofOutcome s h o j e) || matched s h states o j (effect s h e .w0)
+unblocked s h states o j e = not (ofOutcome s h o j e) || matched s h states o j (entityOf (effect s h e))
 
 -- "an outcome is applicable if, for each entity it names, one of its effects starts from that entity's present state"
 unfoldable pub applicable : List ℤ → Header → List ℤ → ℕ → ℕ → Bool
@@ -40,9 +40,9 @@ applicable s h states o j = allBelow (unblocked s h states o j) (h .effects)
 
 -- the first applicable outcome in declared order, or the number of outcomes where none is
 unfoldable pub firstApplicable : List ℤ → Header → List ℤ → ℕ → ℕ
-firstApplicable s h states o = firstFail (λ j. not (applicable s h states o j)) 0 (operation s h o .w4)
+firstApplicable s h states o = firstFail (λ j. not (applicable s h states o j)) 0 (outcomesOf (operation s h o))
 
 -- "the first applicable outcome in declared order is chosen"; refusal 11 is given exactly where it is Nothing
 unfoldable pub chosen : List ℤ → Header → List ℤ → ℕ → Choice
 chosen s h states o =
-    cond (ltb (firstApplicable s h states o) (operation s h o .w4)) (Outcome (firstApplicable s h states o)) Nothing
+    cond (ltb (firstApplicable s h states o) (outcomesOf (operation s h o))) (Outcome (firstApplicable s h states o)) Nothing

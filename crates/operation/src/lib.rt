@@ -18,6 +18,7 @@ use answer::Status;
 use layout::Header;
 use layout::Operation;
 use layout::Persona;
+use layout::place;
 use signed::to_word;
 use words::number;
 use words::number_at;
@@ -59,7 +60,7 @@ pub fn allows(s: &[i64], h: Header, o: Operation, p: Persona) -> bool
     ensures { λ b. ⌜ b ≡ allowed (now (s .entry)) h (o .0) (p .0) ⌝ }
 {
     let bit = p.0;
-    in_mask(operation_word(s, h, o, 0), bit)
+    in_mask(operation_word(s, h, o, place::OPERATION_MASK), bit)
 }
 
 // Refusal 8, or Done.
@@ -71,7 +72,7 @@ pub fn judge_states(s: &[i64], h: Header, states: &[i64]) -> Status
     let base = h.facts + h.nodes + h.rules;
     let mut n = 0;
     while n < h.entities {
-        let count = number(s, base + n, 0);
+        let count = number(s, base + n, place::ENTITY_STATES);
         let state = number_at(states, n);
         if count <= state {
             return Status::Refused(Refusal::State(n));
@@ -86,11 +87,11 @@ pub fn effects_of(s: &[i64], h: Header, o: Operation) -> Effects
     requires { ⌜ o .0 < h .operations ⌝ }
     ensures { λ r. ⌜ r ≡ effectsOf (now (s .entry)) h (o .0) ⌝ }
 {
-    let first = operation_word(s, h, o, 2);
+    let first = operation_word(s, h, o, place::OPERATION_FIRST_EFFECT);
     Effects {
         first,
-        end: first + operation_word(s, h, o, 3),
-        outcomes: operation_word(s, h, o, 4),
+        end: first + operation_word(s, h, o, place::OPERATION_EFFECTS),
+        outcomes: operation_word(s, h, o, place::OPERATION_OUTCOMES),
     }
 }
 
@@ -108,8 +109,8 @@ fn starts(s: &[i64], h: Header, states: &[i64], e: usize) -> bool
     requires { ⌜ Read (now s) h (now states) e ⌝ }
     ensures { λ b. ⌜ b ≡ starts (now (states .entry)) (effect (now (s .entry)) h e) ⌝ }
 {
-    let n = effect_word(s, h, e, 0);
-    effect_word(s, h, e, 1) == number_at(states, n)
+    let n = effect_word(s, h, e, place::EFFECT_ENTITY);
+    effect_word(s, h, e, place::EFFECT_FROM) == number_at(states, n)
 }
 
 // Sets the flags of the entities that outcome j matches. Its effects start at `at`; the answer is where they end.
@@ -130,12 +131,12 @@ fn collect(
     let end = effects.end;
     let mut e = at;
     while e < end {
-        let out = effect_word(s, h, e, 3);
+        let out = effect_word(s, h, e, place::EFFECT_OUTCOME);
         if out != j {
             return e;
         }
         let on = starts(s, h, states, e);
-        let n = effect_word(s, h, e, 0);
+        let n = effect_word(s, h, e, place::EFFECT_ENTITY);
         found[n] = found[n] | on;
         e += 1;
     }
@@ -159,7 +160,7 @@ pub fn choose(s: &[i64], h: Header, states: &[i64], o: Operation) -> Choice
         let stop = collect(s, h, states, &mut found, o, at, j);
         let mut d = at;
         while d < stop {
-            let n = effect_word(s, h, d, 0);
+            let n = effect_word(s, h, d, place::EFFECT_ENTITY);
             if !found[n] {
                 // No effect of this outcome starts from the entity's state: on to the next outcome.
                 at = stop;
@@ -178,10 +179,10 @@ fn shift(s: &[i64], h: Header, states: &mut [i64], moved: &mut [bool], e: usize)
     requires { ⌜ length (now moved) ≡ 32 ⌝ }
     ensures { λ r. ⌜ Shifted (now (s .entry)) h e (now (states .entry)) (now (moved .entry)) (now (states .exit)) (now (moved .exit)) ⌝ }
 {
-    let n = effect_word(s, h, e, 0);
+    let n = effect_word(s, h, e, place::EFFECT_ENTITY);
     let on = !moved[n] & starts(s, h, states, e);
     if on {
-        states[n] = to_word(effect_word(s, h, e, 2));
+        states[n] = to_word(effect_word(s, h, e, place::EFFECT_TO));
         moved[n] = true;
     }
 }
@@ -197,7 +198,7 @@ pub fn apply(s: &[i64], h: Header, states: &mut [i64], o: Operation, j: usize)
     let mut moved = [false; Header::ENTITIES];
     let mut e = effects.first;
     while e < end {
-        let out = effect_word(s, h, e, 3);
+        let out = effect_word(s, h, e, place::EFFECT_OUTCOME);
         if out != j {
             e += 1;
             continue;

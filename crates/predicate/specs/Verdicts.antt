@@ -4,13 +4,13 @@ use Prim.Native.Nat.{ℕ, zero, suc}
 use lib.IntN.{ℤ}
 use mathlib.Core.List.{List, [], _∷_, _++_}
 use Rattle.layout.specs.declared.Header.{Header}
-use Rattle.layout.specs.Tables.{rule}
+use Rattle.layout.specs.Tables.{rule, whenNodeOf}
 use Rattle.node.specs.Rows.{bit}
 use Rattle.predicate.specs.Values.{truth}
 
 -- the when-node of rule k
 abbrev pub whenNode : List ℤ → Header → ℕ → ℕ
-whenNode s h k = rule s h k .w1
+whenNode s h k = whenNodeOf (rule s h k)
 
 -- the verdicts of the first rules, as many as the number says, each from those before it
 unfoldable pub verdictsTo : List ℤ → Header → List ℤ → ℕ → List ℤ

@@ -28,6 +28,7 @@ use item::span;
 use item::sum;
 use layout::Header;
 use layout::Node;
+use layout::place;
 use node::Given;
 use node::Kids;
 use node::children;
@@ -169,7 +170,7 @@ fn evaluate(s: &[i64], base: usize, facts: &[i64], verdicts: &[i64], n: Node) ->
     if c.count == 1 {
         return value_at(s, at, facts, verdicts, x, 0);
     }
-    if decides(number(s, at, 0), x) {
+    if decides(number(s, at, place::NODE_KIND), x) {
         return x;
     }
     let y = evaluate(s, base, facts, verdicts, Node(c.second));
@@ -200,7 +201,7 @@ pub fn fill_verdicts(s: &[i64], h: Header, facts: &[i64], out: &mut [i64])
     let rules = h.rules;
     let first = h.facts + h.nodes;
     for k in 0..rules {
-        let when = number(s, first + k, 1);
+        let when = number(s, first + k, place::RULE_WHEN_NODE);
         let holds = is_true(s, h, facts, &out[..k], Node(when));
         out[k] = bit(holds);
     }
@@ -212,8 +213,15 @@ fn named_fact(s: &[i64], base: usize, f: usize) -> Item
     ensures { λ x. ⌜ x ≡ factAt (now (s .entry)) base f ⌝ }
 {
     if f < base {
-        let sort = fact_sort(number(s, f, 0), number(s, f, 5));
-        span(sort, word(s, f, 1), word(s, f, 2))
+        let sort = fact_sort(
+            number(s, f, place::FACT_TYPE),
+            number(s, f, place::FACT_SET),
+        );
+        span(
+            sort,
+            word(s, f, place::FACT_MIN),
+            word(s, f, place::FACT_MAX),
+        )
     } else {
         span(0, 0, 0)
     }

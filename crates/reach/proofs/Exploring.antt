@@ -20,7 +20,7 @@ use Rattle.layout.specs.declared.Header.{Header}
 use Rattle.layout.specs.Header.{firstEntity}
 use Rattle.layout.specs.Tables.{entity, transition}
 use Rattle.records.specs.Accepted.{Accepted}
-use Rattle.reach.specs.Reached.{Reached, initial, along, flagged, maskOf, reachable}
+use Rattle.reach.specs.Reached.{Reached, initial, along, flagged, maskBelow, reachable}
 use Rattle.reach.specs.Moves.{leaves, leads}
 use Rattle.reach.specs.Inner.{leadsBy, Spread, settled, nextOpen}
 use Rattle.reach.proofs.Counts.{countBelow, count-most, count-set}
@@ -144,7 +144,7 @@ module _ {s : List ℤ} {h : Header} (a : Accepted s h) (n : ℕ) (l : n < h .en
       all-found initial = r .first
       all-found (along {q} v k m x y) = r .closed q (r .all g q (reached-below a n l v) (all-found v)) k m x y
 
-      pub finished : maskOf (λ q. getD found q false) 16 ≡ reachable s h n
+      pub finished : maskBelow (λ q. getD found q false) 16 ≡ reachable s h n
       unfolding reachable
       finished =
           mask-same (λ q. getD found q false) (λ q. getD (flagged s h n 16) q false) 16

@@ -11,7 +11,7 @@ use lib.Dec.{lit<}
 use lib.Pow.{pow-mono, shl-exact}
 use Rattle.tables.proofs.Scans.{extend-one}
 use Rattle.tables.proofs.Scanned.{fail-at, fail-none}
-use Rattle.reach.specs.Reached.{maskOf}
+use Rattle.reach.specs.Reached.{maskBelow}
 use Rattle.reach.specs.Inner.{settled, nextOpen}
 use Rattle.reach.proofs.Masks.{place, mask-zero, mask-more, mask-below}
 
@@ -44,7 +44,7 @@ shifted q l = shl-exact 1 q 64 (lit< tt) (omega arith) ∙ one-mul (2 ^ q)
 -- the mask of the first q flags
 pub record Masked (f : ℕ → Bool) (q mask : ℕ) : Type 0 where
   pub here : q ≤ 16
-  pub is : mask ≡ maskOf f q
+  pub is : mask ≡ maskBelow f q
 
 module _ (f : ℕ → Bool) where
   pub no-bits : Masked f 0 0
@@ -62,5 +62,5 @@ module _ (f : ℕ → Bool) where
         let m : 2 ^ (q + 1) ≤ 2 ^ 16 = pow-mono k in
         omega (arith, p, m, mask-below f (q + 1))
 
-    pub all-bits : 16 ≤ q → mask ≡ maskOf f 16
+    pub all-bits : 16 ≤ q → mask ≡ maskBelow f 16
     all-bits l = let e : q ≡ 16 = omega (arith, r .here) in rw (← e) (r .is)

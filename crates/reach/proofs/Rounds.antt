@@ -23,7 +23,7 @@ use Rattle.records.specs.Accepted.{Accepted}
 use Rattle.records.specs.Entities.{states}
 use Rattle.records.proofs.OperationLaws.{entity-ok, transition-ok}
 use Rattle.operation.specs.Mask.{inMask}
-use Rattle.reach.specs.Reached.{Reached, initial, along, enters, round, flagged, maskOf, reachable}
+use Rattle.reach.specs.Reached.{Reached, initial, along, enters, round, flagged, maskBelow, reachable}
 use Rattle.reach.proofs.Counts.{countBelow, count-most, count-same}
 use Rattle.reach.proofs.Masks.{mask-below, mask-bit, mask-past}
 
@@ -157,7 +157,7 @@ module _ {s : List ℤ} {h : Header} (a : Accepted s h) (n : ℕ) (l : n < h .en
   unfolding reachable
   reached-in-mask q = (λ r. mask-bit (λ q. getD (flagged s h n 16) q false) 16 q (reached-below r) ∙ complete r, λ p. back p (decLt q 16))
     where
-      back : inMask (maskOf (λ q. getD (flagged s h n 16) q false) 16) q ≡ true → Dec (q < 16) → Reached s h n q
+      back : inMask (maskBelow (λ q. getD (flagged s h n 16) q false) 16) q ≡ true → Dec (q < 16) → Reached s h n q
       back p (yes y) = sound s h n 16 q (sym (mask-bit (λ q. getD (flagged s h n 16) q false) 16 q y) ∙ p)
       back p (no x) = absurd (true-false p (mask-past (λ q. getD (flagged s h n 16) q false) 16 q (omega arith)))
 

@@ -10,18 +10,18 @@ use lib.Dec.{eqb}
 use Rattle.tables.specs.Scan.{anyBelow, sumBelow}
 use Rattle.tables.specs.Table.{grown}
 use Rattle.layout.specs.declared.Header.{Header}
-use Rattle.layout.specs.Tables.{entity, transition}
+use Rattle.layout.specs.Tables.{entity, transition, initialOf, entityOf, fromOf, toOf}
 
 -- the states of entity n that are reached: the initial one, and where a declared transition leads from one that is reached
 pub data Reached (s : List ℤ) (h : Header) (n : ℕ) : ℕ → Type 0 where
-  initial : Reached s h n (entity s h n .w1)
-  along : {q : ℕ} → Reached s h n q → (k : ℕ) → k < h .transitions → transition s h k .w0 ≡ n → transition s h k .w1 ≡ q → Reached s h n (transition s h k .w2)
+  initial : Reached s h n (initialOf (entity s h n))
+  along : {q : ℕ} → Reached s h n q → (k : ℕ) → k < h .transitions → entityOf (transition s h k) ≡ n → fromOf (transition s h k) ≡ q → Reached s h n (toOf (transition s h k))
 
 -- ---- the same, computed
 
 -- transition k is entity n's, leads to state q, and starts from a state that is flagged
 unfoldable pub enters : List ℤ → Header → ℕ → List Bool → ℕ → ℕ → Bool
-enters s h n flags q k = eqb (transition s h k .w0) n && eqb (transition s h k .w2) q && getD flags (transition s h k .w1) false
+enters s h n flags q k = eqb (entityOf (transition s h k)) n && eqb (toOf (transition s h k)) q && getD flags (fromOf (transition s h k)) false
 
 -- one round: the states that are flagged, and those that a transition leads to from one of them
 unfoldable pub round : List ℤ → Header → ℕ → List Bool → List Bool
@@ -29,13 +29,13 @@ round s h n flags = grown (λ _ q. getD flags q false || anyBelow (enters s h n 
 
 -- a flag for each state there may be, after i rounds: the states reached by at most i transitions
 unfoldable pub flagged : List ℤ → Header → ℕ → ℕ → List Bool
-flagged s h n zero = grown (λ _ q. eqb q (entity s h n .w1)) false 16
+flagged s h n zero = grown (λ _ q. eqb q (initialOf (entity s h n))) false 16
 flagged s h n (suc i) = let t = flagged s h n i in round s h n t
 
 -- the mask of the numbers below n of which f holds
-unfoldable pub maskOf : (ℕ → Bool) → ℕ → ℕ
-maskOf f n = sumBelow (λ q. cond (f q) (2 ^ q) 0) n
+unfoldable pub maskBelow : (ℕ → Bool) → ℕ → ℕ
+maskBelow f n = sumBelow (λ q. cond (f q) (2 ^ q) 0) n
 
 -- S2: an entity has 16 states at most, so 16 rounds find each state that is reached
 unfoldable pub reachable : List ℤ → Header → ℕ → ℕ
-reachable s h n = let t = flagged s h n 16 in maskOf (λ q. getD t q false) 16
+reachable s h n = let t = flagged s h n 16 in maskBelow (λ q. getD t q false) 16

@@ -4,11 +4,12 @@ ghost use mathlib.Core.Bool.{false, cond};
 ghost use Prim.Native.Nat.{_<_, _^_};
 ghost use lib.ListN.{length, getD};
 ghost use Rattle.records.specs.Accepted.{Accepted};
-ghost use Rattle.reach.specs.Reached.{maskOf, reachable};
+ghost use Rattle.reach.specs.Reached.{maskBelow, reachable};
 ghost use Rattle.reach.specs.Moves.{leaves};
 ghost use Rattle.reach.specs.Inner.{Spread, nextOpen};
 use layout::Entity;
 use layout::Header;
+use layout::place;
 use words::Record;
 use words::number;
 use words::record_at;
@@ -66,7 +67,7 @@ fn place(on: bool, q: usize) -> usize
 // The mask of the flags that are set.
 fn mask_of(found: &[bool]) -> usize
     requires { ⌜ length (now found) ≡ 16 ⌝ }
-    ensures { λ r. ⌜ r ≡ maskOf (λ q. getD (now (found .entry)) q false) 16 ⌝ }
+    ensures { λ r. ⌜ r ≡ maskBelow (λ q. getD (now (found .entry)) q false) 16 ⌝ }
 {
     let mut mask = 0;
     let mut q = 0;
@@ -85,7 +86,7 @@ pub fn reachable(s: &[i64], h: Header, n: Entity) -> usize
 {
     let mut found = [false; 16];
     let mut scanned = [false; 16];
-    let mut state = number(s, h.first_entity() + n.0, 1);
+    let mut state = number(s, h.first_entity() + n.0, place::ENTITY_INITIAL);
     found[state] = true;
     while state < 16 {
         scanned[state] = true;

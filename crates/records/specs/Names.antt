@@ -7,21 +7,21 @@ use mathlib.Core.List.{List}
 use lib.Dec.{ltb, eqb}
 use Rattle.tables.specs.Scan.{anyBelow}
 use Rattle.layout.specs.declared.Header.{Header}
-use Rattle.layout.specs.Tables.{rule, operation, step}
+use Rattle.layout.specs.Tables.{rule, operation, step, whenNodeOf, preconditionOf, kindOf, nodeNamed}
 use Rattle.records.specs.Nodes.{namedByNodes, itemOf}
 
 -- some node, or some rule before k, names a
 unfoldable pub namedByRules : List ℤ → Header → ℕ → ℕ → Bool
-namedByRules s h k a = namedByNodes s h (h .nodes) a || anyBelow (λ j. eqb (rule s h j .w1) a) k
+namedByRules s h k a = namedByNodes s h (h .nodes) a || anyBelow (λ j. eqb (whenNodeOf (rule s h j)) a) k
 
 -- some node or rule, or some operation before k, names a
 unfoldable pub namedByOperations : List ℤ → Header → ℕ → ℕ → Bool
-namedByOperations s h k a = namedByRules s h (h .rules) a || anyBelow (λ j. eqb (operation s h j .w1) a) k
+namedByOperations s h k a = namedByRules s h (h .rules) a || anyBelow (λ j. eqb (preconditionOf (operation s h j)) a) k
 
 -- some node, rule or operation, or some step before k, names a; a step names a node where it is a branch
 unfoldable pub namedBySteps : List ℤ → Header → ℕ → ℕ → Bool
 namedBySteps s h k a =
-    namedByOperations s h (h .operations) a || anyBelow (λ j. eqb (step s h j .w0) 1 && eqb (step s h j .w1) a) k
+    namedByOperations s h (h .operations) a || anyBelow (λ j. eqb (kindOf (step s h j)) 1 && eqb (nodeNamed (step s h j)) a) k
 
 -- a when-node, precondition or branch: it exists, is Bool, and is not named already
 unfoldable pub goodRoot : List ℤ → Header → ℕ → Bool → Bool

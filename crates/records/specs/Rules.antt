@@ -9,12 +9,12 @@ use lib.Dec.{leb, ltb, eqb}
 use Rattle.tables.specs.Lists.{allOf}
 use Rattle.words.specs.Record.{unused}
 use Rattle.layout.specs.declared.Header.{Header}
-use Rattle.layout.specs.Tables.{rule}
+use Rattle.layout.specs.Tables.{rule, stratumOf, whenNodeOf}
 use Rattle.records.specs.Nodes.{citedBy, treeOf}
 use Rattle.records.specs.Names.{namedByRules, goodRoot}
 
 abbrev pub stratum : List ℤ → Header → ℕ → ℕ
-stratum s h k = rule s h k .w0
+stratum s h k = stratumOf (rule s h k)
 
 -- rule c may be cited by rule k
 abbrev pub lower : List ℤ → Header → ℕ → ℕ → Bool
@@ -28,6 +28,6 @@ unfoldable pub goodRule : List ℤ → Header → ℕ → Bool
 goodRule s h k =
     leb (stratum s h k) 15
     && (eqb k 0 || leb (stratum s h (k - 1)) (stratum s h k))
-    && goodRoot s h (rule s h k .w1) (namedByRules s h k (rule s h k .w1))
+    && goodRoot s h (whenNodeOf (rule s h k)) (namedByRules s h k (whenNodeOf (rule s h k)))
     && unused 2 (rule s h k)
-    && citesLower s h k (rule s h k .w1)
+    && citesLower s h k (whenNodeOf (rule s h k))

@@ -9,6 +9,7 @@ ghost use Rattle.records.specs.Entities.{goodEntity, goodChange};
 ghost use Rattle.records.specs.Operations.{goodMask, goodOperation, goodOutcome};
 ghost use Rattle.records.specs.Flows.{goodOperationStep, goodRouteOf};
 use layout::Header;
+use layout::place;
 use signed::at_most;
 use signed::bounded;
 use signed::same;
@@ -78,7 +79,7 @@ pub fn good_change(s: &[i64], h: Header, r: Record) -> bool
     ensures { λ b. ⌜ b ≡ goodChange (now (s .entry)) h r ⌝ }
 {
     if r.w0 < h.entities {
-        let n = number(s, h.first_entity() + r.w0, 0);
+        let n = number(s, h.first_entity() + r.w0, place::ENTITY_STATES);
         (r.w1 < n) & (r.w2 < n)
     } else {
         false
@@ -114,7 +115,7 @@ pub fn good_operation_step(s: &[i64], h: Header, r: Record) -> bool
     ensures { λ b. ⌜ b ≡ goodOperationStep (now (s .entry)) h r ⌝ }
 {
     if r.w1 < h.operations {
-        let outcomes = number(s, h.first_operation() + r.w1, 4);
+        let outcomes = number(s, h.first_operation() + r.w1, place::OPERATION_OUTCOMES);
         (r.w2 < h.personas) & (r.w4 == outcomes + 1)
     } else {
         false

@@ -21,6 +21,7 @@ use layout::Node;
 use layout::Operation;
 use layout::Persona;
 use layout::Rule;
+use layout::place;
 use listing::longest;
 use signed::num;
 use words::number;
@@ -66,7 +67,7 @@ fn states_of(s: &[i64], h: Header, n: Entity) -> usize
     requires { ⌜ n .0 < h .entities ⌝ }
     ensures { λ r. ⌜ r ≡ states (now (s .entry)) h (n .0) ⌝ }
 {
-    number(s, h.first_entity() + n.0, 0)
+    number(s, h.first_entity() + n.0, place::ENTITY_STATES)
 }
 
 // A rule's stratum.
@@ -75,7 +76,7 @@ fn stratum_of(s: &[i64], h: Header, k: Rule) -> usize
     requires { ⌜ k .0 < h .rules ⌝ }
     ensures { λ r. ⌜ r ≡ stratum (now (s .entry)) h (k .0) ⌝ }
 {
-    number(s, h.first_rule() + k.0, 0)
+    number(s, h.first_rule() + k.0, place::RULE_STRATUM)
 }
 
 // How many outcomes an operation has.
@@ -84,7 +85,7 @@ fn outcomes_of(s: &[i64], h: Header, o: Operation) -> usize
     requires { ⌜ o .0 < h .operations ⌝ }
     ensures { λ r. ⌜ r ≡ outcomes (now (s .entry)) h (o .0) ⌝ }
 {
-    number(s, h.first_operation() + o.0, 4)
+    number(s, h.first_operation() + o.0, place::OPERATION_OUTCOMES)
 }
 
 // S1: the number of an entity's states.

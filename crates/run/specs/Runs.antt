@@ -11,7 +11,7 @@ use Rattle.answer.specs.declared.Count.{Count}
 use Rattle.answer.specs.declared.Count.the-variants.{Is, Refused}
 use Rattle.answer.specs.declared.Walk.{Walk}
 use Rattle.layout.specs.declared.Header.{Header}
-use Rattle.layout.specs.Tables.{step}
+use Rattle.layout.specs.Tables.{step, kindOf, nodeNamed, personaNamed, operationNamed}
 use Rattle.records.specs.Accepted.{Accepted}
 use Rattle.facts.specs.Assembled.{FactsIn}
 use Rattle.predicate.specs.Values.{truth, Truths}
@@ -26,17 +26,17 @@ use Rattle.listing.specs.Calls.{Lent, walkOf, laid}
 
 -- step i is an operation step, of kind 0; the other kind is a branch
 abbrev pub performs : List ℤ → Header → ℕ → Bool
-performs s h i = eqb (step s h i .w0) 0
+performs s h i = eqb (kindOf (step s h i)) 0
 
 -- the operation and the persona of an operation step; the node of a branch
 abbrev pub operationAt : List ℤ → Header → ℕ → ℕ
-operationAt s h i = step s h i .w1
+operationAt s h i = operationNamed (step s h i)
 
 abbrev pub personaAt : List ℤ → Header → ℕ → ℕ
-personaAt s h i = step s h i .w2
+personaAt s h i = personaNamed (step s h i)
 
 abbrev pub nodeAt : List ℤ → Header → ℕ → ℕ
-nodeAt s h i = step s h i .w1
+nodeAt s h i = nodeNamed (step s h i)
 
 -- "an operation step answered 9, 10 or 11 .. takes the failure route", which is its last; "otherwise the route of its outcome"
 unfoldable pub answerRoute : List ℤ → Header → ℕ → Count → ℕ

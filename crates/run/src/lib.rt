@@ -20,6 +20,7 @@ use layout::Header;
 use layout::Node;
 use layout::Operation;
 use layout::Persona;
+use layout::place;
 use listing::Walker;
 use listing::clear;
 use listing::first_route;
@@ -88,8 +89,8 @@ fn perform_step(
 {
     let first = first_route(s, h, step);
     let count = routes(s, h, step);
-    let o = Operation(step_word(s, h, step, 1));
-    let p = Persona(step_word(s, h, step, 2));
+    let o = Operation(step_word(s, h, step, place::STEP_OPERATION));
+    let p = Persona(step_word(s, h, step, place::STEP_PERSONA));
     let b = recall(s, h, facts, verdicts, known, holds, p, o);
     match attempt_known(s, h, b, states, p, o) {
         Count::Is(j) => first + j,
@@ -104,7 +105,7 @@ fn branch(s: &[i64], h: Header, facts: &[i64], verdicts: &[i64], step: usize) ->
     ensures { λ r. ⌜ r ≡ branchRoute (now (s .entry)) h step (truth (now (s .entry)) h (now (facts .entry)) (now (verdicts .entry)) (nodeAt (now (s .entry)) h step)) ⌝ }
 {
     let first = first_route(s, h, step);
-    let node = Node(step_word(s, h, step, 1));
+    let node = Node(step_word(s, h, step, place::STEP_NODE));
     if is_true(s, h, facts, verdicts, node) {
         first
     } else {
@@ -130,7 +131,7 @@ fn advance(
     ensures { λ r. ⌜ now (states .exit) ≡ statesThen (now (s .entry)) h (now (facts .entry)) (now (verdicts .entry)) (now (states .entry)) step ⌝ }
     ensures { λ r. ⌜ Memo (now (s .entry)) h (now (facts .entry)) (now (verdicts .entry)) (now (known .exit)) (now (holds .exit)) ⌝ }
 {
-    if step_word(s, h, step, 0) == 0 {
+    if step_word(s, h, step, place::STEP_KIND) == 0 {
         perform_step(s, h, facts, verdicts, states, known, holds, step)
     } else {
         branch(s, h, facts, verdicts, step)

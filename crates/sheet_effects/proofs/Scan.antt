@@ -143,7 +143,7 @@ module _ (s : List ℤ) (h : Header) (d : List Bool) (o first end outcomes e bef
             }
           where
             stored : (y : ℕ) → y < room → Dec (sourceOf r ≡ y) → getD (set t (sourceOf r) m) y 0 ≡ lastStamp s h y (e + 1)
-            stored y q (yes v) = rw add-one (unfold lastStamp in rw (← is, eq-eqb (sourceOf r) y v, v) (getD-set-same t y m 0 (omega (arith, w .seen .long)) ∙ stamp-is))
+            stored y q (yes v) = rw add-one (unfold lastStamp in rw (← is, eq-eqb (sourceOf r) y v, v) (getD-set-same t y m 0 (omega (arith, w .seen .long)) ∙ (rw (← is) at stamp-is)))
             stored y q (no v) = rw add-one (unfold lastStamp in rw (← is, ne-eqb (sourceOf r) y v) (getD-set-other t (sourceOf r) y m 0 (λ u. v (sym u)) ∙ w .seen .stamps y q))
 
 -- what the loop returns

@@ -12,7 +12,7 @@ use Rattle.words.specs.declared.Record.{Record}
 use Rattle.layout.specs.declared.Header.{Header}
 use Rattle.layout.specs.Groups.{goodGroups}
 use Rattle.layout.specs.Sized.{Sized}
-use Rattle.layout.specs.Tables.{entity, operation, effect}
+use Rattle.layout.specs.Tables.{entity, operation, effect, effectStartOf, outcomesOf}
 use Rattle.records.specs.Entities.{goodEntity}
 use Rattle.records.specs.Operations.{goodOperation, goodEffect, operationOf, outcome, effectsEnd}
 use Rattle.sheet_states.specs.Flags.{Declared}
@@ -41,9 +41,9 @@ pub record Before (s : List ℤ) (h : Header) (t : List Bool) : Type 0 where
 -- operation o, where its effects start and end, and how many outcomes it has
 pub record Group (s : List ℤ) (h : Header) (o first end outcomes : ℕ) : Type 0 where
   pub here : o < h .operations
-  pub starts : first ≡ operation s h o .w2
+  pub starts : first ≡ effectStartOf (operation s h o)
   pub ends : end ≡ effectsEnd s h o
-  pub has : outcomes ≡ operation s h o .w4
+  pub has : outcomes ≡ outcomesOf (operation s h o)
 
 -- after e good effects; there are m stamps, enough for the entities
 pub record Seen (s : List ℤ) (h : Header) (m e : ℕ) (t : List ℕ) : Type 0 where

@@ -10,6 +10,7 @@ ghost use Rattle.sheet_states.specs.Flags.{placeOf};
 ghost use Rattle.records.specs.Operations.{goodEffect};
 ghost use Rattle.sheet_effects.specs.Stamps.{sourceOf, Before, Group, Seen, Stretch};
 use layout::Header;
+use layout::place;
 use records::good_change;
 use records::good_outcome;
 use sheet_states::place_of;
@@ -73,8 +74,8 @@ pub fn check_effects(s: &[i64], h: Header, declared: &[bool], seen: &mut [usize]
     let mut first = 0;
     let mut o = 0;
     while o < n {
-        let end = first + number(s, base + o, 3);
-        let outcomes = number(s, base + o, 4);
+        let end = first + number(s, base + o, place::OPERATION_EFFECTS);
+        let outcomes = number(s, base + o, place::OPERATION_OUTCOMES);
         let e = check_group(s, h, o, first, end, outcomes, declared, seen);
         if e < end {
             return e;

@@ -8,6 +8,7 @@ ghost use Rattle.layout.specs.Tables.{fact};
 ghost use Rattle.records.specs.Facts.{goodFact};
 ghost use Rattle.sheet_facts.specs.Maxes.{goodAlone, agrees, noted};
 use layout::Header;
+use layout::place;
 use records::good_bounds;
 use records::good_default;
 use records::good_set;
@@ -21,9 +22,9 @@ fn good_alone(s: &[i64], k: usize, r: Record) -> bool
     requires { ⌜ (16 + 8 * k + 8 ≤ length (now s)) × (r ≡ fact (now s) k) ⌝ }
     ensures { λ b. ⌜ b ≡ goodAlone (now (s .entry)) k ⌝ }
 {
-    let min = word(s, k, 1);
-    let max = word(s, k, 2);
-    let default = word(s, k, 4);
+    let min = word(s, k, place::FACT_MIN);
+    let max = word(s, k, place::FACT_MAX);
+    let default = word(s, k, place::FACT_DEFAULT);
     good_bounds(r.w0, min, max)
         & good_set(r.w0, r.w5)
         & good_default(r.w3, min, max, default)

@@ -10,7 +10,7 @@ use Rattle.tables.specs.Scan.{sumBelow}
 use Rattle.layout.specs.declared.Header.{Header}
 use Rattle.layout.specs.Groups.{goodGroups, stepCount}
 use Rattle.layout.specs.Sized.{Sized}
-use Rattle.layout.specs.Tables.{step}
+use Rattle.layout.specs.Tables.{step, routeStartOf}
 use Rattle.records.specs.Flows.{goodFlow, goodStep, goodRoute, routesEnd, stepsEnd, flowOf}
 use Rattle.sheet_flows.specs.declared.Cursor.{Cursor}
 
@@ -37,7 +37,7 @@ pub record Room (s : List ℤ) (h : Header) (c : Cursor) (i : ℕ) : Type 0 wher
 -- step i, where the steps of its flow end, and where its routes start and end
 pub record At (s : List ℤ) (h : Header) (i last first end : ℕ) : Type 0 where
   pub here : i < h .steps
-  pub starts : first ≡ step s h i .w3
+  pub starts : first ≡ routeStartOf (step s h i)
   pub ends : end ≡ routesEnd s h i
   pub flow : last ≡ stepsEnd s h (flowOf s h i)
 

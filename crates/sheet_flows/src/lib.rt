@@ -9,6 +9,7 @@ ghost use Rattle.layout.specs.Groups.{goodGroups};
 ghost use Rattle.records.specs.Flows.{goodFlow, goodRoute};
 ghost use Rattle.sheet_flows.specs.Routes.{moved, Room, Ready, At, Stretch};
 use layout::Header;
+use layout::place;
 use records::good_route_of;
 use words::number;
 use words::record_at;
@@ -61,7 +62,7 @@ fn advance(s: &[i64], h: Header, c: Cursor, i: usize) -> Cursor
     ensures { λ r. ⌜ r ≡ moved (now (s .entry)) h c i ⌝ }
 {
     if i == c.last {
-        let n = number(s, h.first_flow() + c.flows, 1);
+        let n = number(s, h.first_flow() + c.flows, place::FLOW_STEPS);
         Cursor {
             flows: c.flows + 1,
             last: c.last + n,
@@ -82,7 +83,7 @@ pub fn check_routes(s: &[i64], h: Header) -> usize
     let mut i = 0;
     while i < n {
         c = advance(s, h, c, i);
-        let end = k + number(s, base + i, 4);
+        let end = k + number(s, base + i, place::STEP_ROUTES);
         let last = c.last;
         let bad = check_group(s, h, i, last, k, end);
         if bad < end {

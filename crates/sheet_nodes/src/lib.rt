@@ -17,6 +17,7 @@ ghost use Rattle.sheet_nodes.specs.Steps.{kidItem, givenBy, Inside, Long
 use item::Item;
 use item::span;
 use layout::Header;
+use layout::place;
 use node::Found;
 use node::Given;
 use node::Kids;
@@ -48,8 +49,15 @@ fn named_fact(s: &[i64], h: Header, f: usize) -> Item
     ensures { λ x. ⌜ x ≡ namedFact (now (s .entry)) h f ⌝ }
 {
     if f < h.facts {
-        let sort = fact_sort(number(s, f, 0), number(s, f, 5));
-        span(sort, word(s, f, 1), word(s, f, 2))
+        let sort = fact_sort(
+            number(s, f, place::FACT_TYPE),
+            number(s, f, place::FACT_SET),
+        );
+        span(
+            sort,
+            word(s, f, place::FACT_MIN),
+            word(s, f, place::FACT_MAX),
+        )
     } else {
         span(0, 0, 0)
     }

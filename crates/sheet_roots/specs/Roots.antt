@@ -9,6 +9,7 @@ use lib.Dec.{leb, ltb, eqb}
 use lib.ListN.{length, getD}
 use Rattle.words.specs.declared.Record.{Record}
 use Rattle.layout.specs.declared.Header.{Header}
+use Rattle.layout.specs.Tables.{kindOf, personaNamed, routeCountOf}
 use Rattle.records.specs.Nodes.{itemOf, namedByNodes}
 use Rattle.records.specs.Rules.{stratum}
 use Rattle.records.specs.Flows.{goodOperationStep}
@@ -42,4 +43,4 @@ topLower s h k own top = eqb top 0 || leb top k && ltb (stratum s h (top - 1)) o
 
 -- a step by its kind; `rooted` says whether a branch's node can be a root
 abbrev pub kindTest : List ℤ → Header → Record → Bool → Bool
-kindTest s h r rooted = cond (eqb (r .w0) 0) (goodOperationStep s h r) (cond (eqb (r .w0) 1) (rooted && eqb (r .w2) 0 && eqb (r .w4) 2) false)
+kindTest s h r rooted = cond (eqb (kindOf r) 0) (goodOperationStep s h r) (cond (eqb (kindOf r) 1) (rooted && eqb (personaNamed r) 0 && eqb (routeCountOf r) 2) false)

@@ -11,6 +11,7 @@ ghost use Rattle.records.specs.Names.{namedByRules};
 ghost use Rattle.sheet_roots.specs.Roots.{Known, Names, topLower, NamedByNodes};
 use crate::root;
 use layout::Header;
+use layout::place;
 use tables::byte_entry;
 use tables::mark;
 use words::number;
@@ -26,7 +27,7 @@ fn cites_lower(s: &[i64], h: Header, k: usize, own: usize, top: usize) -> bool
         return true;
     }
     if top <= k {
-        number(s, h.first_rule() + (top - 1), 0) < own
+        number(s, h.first_rule() + (top - 1), place::RULE_STRATUM) < own
     } else {
         false
     }
@@ -40,7 +41,7 @@ fn risen(s: &[i64], h: Header, k: usize, own: usize) -> bool
     if k == 0 {
         true
     } else {
-        number(s, h.first_rule() + (k - 1), 0) <= own
+        number(s, h.first_rule() + (k - 1), place::RULE_STRATUM) <= own
     }
 }
 

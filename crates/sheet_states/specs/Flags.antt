@@ -8,16 +8,17 @@ use lib.IntN.{ℤ}
 use lib.ListN.{length, getD}
 use Rattle.words.specs.declared.Record.{Record}
 use Rattle.layout.specs.declared.Header.{Header}
+use Rattle.layout.specs.Tables.{entityOf, fromOf, toOf}
 use Rattle.records.specs.Entities.{declared, goodTransition}
 
 -- the record's entity, from and to have a flag
 pub record Small (h : Header) (r : Record) : Type 0 where
-  pub entity : r .w0 < h .entities
-  pub from : r .w1 < 16
-  pub to : r .w2 < 16
+  pub entity : entityOf r < h .entities
+  pub from : fromOf r < 16
+  pub to : toOf r < 16
 
 abbrev pub placeOf : Record → ℕ
-placeOf r = 256 * r .w0 + 16 * r .w1 + r .w2
+placeOf r = 256 * entityOf r + 16 * fromOf r + toOf r
 
 -- after k good transitions the flags, m of them and enough for the entities, say which are declared
 pub record Declared (s : List ℤ) (h : Header) (m k : ℕ) (t : List Bool) : Type 0 where
