@@ -1,8 +1,7 @@
 -- 01, "Refusal numbers": the number and the place of each refusal, and the four numbers of an answer.
 -- Assumes nothing.
-use Prim.Native.Nat.{ℕ, _^_, _<_}
+use Prim.Native.Nat.{ℕ}
 use lib.IntN.{pos}
-use lib.Dec.{lit<}
 use Rattle.answer.specs.declared.Refusal.{Refusal}
 use Rattle.answer.specs.declared.Refusal.the-variants.{Header, Group, Record, Length, Missing, FactValue, FactAbsent, State, Persona, Precondition, NoOutcome, NotPath, LastPath, Line, NoRoom}
 use Rattle.answer.specs.declared.Answer.{Answer}
@@ -50,21 +49,3 @@ refusedAnswer r = record { refusal = pos (number r); place = pos (place r); valu
 -- the answer of a call that went through
 abbrev pub doneAnswer : ℕ → ℕ → Answer
 doneAnswer v n = record { refusal = pos 0; place = pos 0; value = pos v; length = pos n }
-
--- every number is small
-pub number-small : (r : Refusal) → number r < 2 ^ 63
-number-small Header = lit< tt
-number-small Group = lit< tt
-number-small (Record k) = lit< tt
-number-small Length = lit< tt
-number-small Missing = lit< tt
-number-small (FactValue k) = lit< tt
-number-small (FactAbsent k) = lit< tt
-number-small (State k) = lit< tt
-number-small Persona = lit< tt
-number-small Precondition = lit< tt
-number-small NoOutcome = lit< tt
-number-small NotPath = lit< tt
-number-small LastPath = lit< tt
-number-small (Line k) = lit< tt
-number-small NoRoom = lit< tt

@@ -3,7 +3,8 @@ ghost use mathlib.Core.Path.{_≡_};
 ghost use lib.IntN.{pos};
 ghost use Prim.Native.Nat.{_<_, _^_};
 ghost use Rattle.answer.specs.Number.{number, place, refusedAnswer, doneAnswer};
-ghost use Rattle.answer.specs.Answers.{statusAnswer, countAnswer, walkAnswer, SmallStatus, SmallCount, SmallWalk};
+ghost use Rattle.answer.specs.Answers.{statusAnswer, countAnswer, walkAnswer};
+ghost use Rattle.answer.specs.Inner.{SmallStatus, SmallCount, SmallWalk};
 
 // Every refusal, by what is wrong. A case that has a place holds it.
 pub enum Refusal {

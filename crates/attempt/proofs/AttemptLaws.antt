@@ -9,7 +9,7 @@ use lib.IntN.{ℤ}
 use native.Mathlib.Omega.{arith}
 use borrow.Author.Tests.{not-true, not-false}
 use Rattle.tables.proofs.Bools.{bool-cases}
-use Rattle.answer.specs.Answers.{SmallCount}
+use Rattle.answer.specs.Inner.{SmallCount}
 use Rattle.answer.specs.declared.Refusal.{Refusal}
 use Rattle.answer.specs.declared.Refusal.the-variants.{Persona, Precondition, NoOutcome}
 use Rattle.answer.specs.declared.Count.{Count}
@@ -17,15 +17,17 @@ use Rattle.answer.specs.declared.Count.the-variants.{Is, Refused}
 use Rattle.layout.specs.declared.Header.{Header}
 use Rattle.layout.specs.Tables.{operation}
 use Rattle.records.proofs.OperationLaws.{operation-ok}
-use Rattle.predicate.specs.Values.{truth, Evaluable}
+use Rattle.predicate.specs.Values.{truth}
+use Rattle.predicate.specs.Inner.{Evaluable}
 use Rattle.operation.specs.declared.Choice.{Choice}
 use Rattle.operation.specs.declared.Choice.the-variants.{Outcome, Nothing}
 use Rattle.operation.specs.Mask.{allowed}
-use Rattle.operation.specs.States.{StatesIn}
+use Rattle.operation.specs.Inner.{StatesIn, performed}
 use Rattle.operation.specs.Outcomes.{chosen}
-use Rattle.operation.specs.Changes.{applied, performed}
+use Rattle.operation.specs.Changes.{applied}
 use Rattle.operation.proofs.Guarantees.{chosen-first, performed-by, performed-not, applied-in}
-use Rattle.attempt.specs.Attempts.{precondition, Attemptable, attemptedIf, attempted, statesAfter, attemptedStatesIf, attemptedStates}
+use Rattle.attempt.specs.Attempts.{precondition, attemptedIf, attempted, statesAfter, attemptedStates}
+use Rattle.attempt.specs.Inner.{Attemptable, attemptedStatesIf}
 
 -- ---- by t, whether the precondition is true
 

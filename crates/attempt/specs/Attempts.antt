@@ -2,30 +2,21 @@
 -- Assumes nothing.
 use mathlib.Core.Bool.{Bool, true, false}
 use mathlib.Core.List.{List}
-use Prim.Native.Nat.{ℕ, _<_}
+use Prim.Native.Nat.{ℕ}
 use lib.IntN.{ℤ}
 use Rattle.answer.specs.declared.Refusal.the-variants.{Persona, Precondition, NoOutcome}
 use Rattle.answer.specs.declared.Count.{Count}
 use Rattle.answer.specs.declared.Count.the-variants.{Is, Refused}
 use Rattle.layout.specs.declared.Header.{Header}
 use Rattle.layout.specs.Tables.{operation, preconditionOf}
-use Rattle.facts.specs.Assembled.{FactsIn}
-use Rattle.predicate.specs.Values.{truth, Truths}
+use Rattle.predicate.specs.Values.{truth}
 use Rattle.operation.specs.declared.Choice.the-variants.{Outcome, Nothing}
 use Rattle.operation.specs.Mask.{allowed}
 use Rattle.operation.specs.Outcomes.{chosen}
 use Rattle.operation.specs.Changes.{applied}
-use Rattle.operation.specs.Ready.{Ready}
 
 abbrev pub precondition : List ℤ → Header → ℕ → ℕ
 precondition s h o = preconditionOf (operation s h o)
-
--- what an attempt asks: an accepted sheet, facts in their ranges, verdicts, states of their entities, a persona and an operation
-pub record Attemptable (s : List ℤ) (h : Header) (facts verdicts states : List ℤ) (p o : ℕ) : Type 0 where
-  pub ready : Ready s h states o
-  pub known : FactsIn s h facts
-  pub judged : Truths verdicts
-  pub persona : p < h .personas
 
 -- 9: the persona is not in the mask. 10: the precondition is false. 11: no outcome is applicable. Else the outcome that is chosen.
 -- `holds` is whether the precondition is true
@@ -43,9 +34,6 @@ attempted s h facts verdicts states p o = attemptedIf s h (truth s h facts verdi
 unfoldable pub statesAfter : List ℤ → Header → List ℤ → ℕ → Count → List ℤ
 statesAfter s h states o (Is j) = applied s h states o j
 statesAfter s h states o (Refused r) = states
-
-unfoldable pub attemptedStatesIf : List ℤ → Header → Bool → List ℤ → ℕ → ℕ → List ℤ
-attemptedStatesIf s h holds states p o = statesAfter s h states o (attemptedIf s h holds states p o)
 
 unfoldable pub attemptedStates : List ℤ → Header → List ℤ → List ℤ → List ℤ → ℕ → ℕ → List ℤ
 attemptedStates s h facts verdicts states p o = statesAfter s h states o (attempted s h facts verdicts states p o)

@@ -1,17 +1,19 @@
 // The reports S1 to S5 and S7, which are lent no buffer: each writes a line.
 use answer::Count;
+use reports::Report;
+use reports::look_up;
 use script::buffers::number;
 use script::lines;
 
 // A report that takes one number.
 fn of_one(s: &[i64], call: usize, a: i64) -> Count {
     match call {
-        9 => reports::states(s, a),
-        10 => reports::reachable(s, a),
-        14 => reports::stratum(s, a),
-        15 => reports::outcomes(s, a),
-        16 => reports::tree_size(s, a),
-        _ => reports::depth(s, a),
+        9 => look_up(s, Report::States, a),
+        10 => look_up(s, Report::Reachable, a),
+        14 => look_up(s, Report::Stratum, a),
+        15 => look_up(s, Report::Outcomes, a),
+        16 => look_up(s, Report::TreeSize, a),
+        _ => look_up(s, Report::Depth, a),
     }
 }
 

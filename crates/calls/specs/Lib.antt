@@ -2,3 +2,4 @@ pub mod Evaluation
 pub mod Flows
 pub mod Reports
 pub mod Lists
+pub mod Inner

@@ -11,9 +11,9 @@ use Rattle.answer.specs.declared.Status.the-variants.{Done}
 use Rattle.answer.specs.declared.Count.{Count}
 use Rattle.answer.specs.declared.Count.the-variants.{Is, Refused as NoCount}
 use Rattle.layout.specs.declared.Header.{Header}
-use Rattle.layout.specs.Tables.{operation, outcomesOf}
 use Rattle.records.specs.Rules.{stratum}
 use Rattle.records.specs.Entities.{states}
+use Rattle.records.specs.Operations.{outcomes}
 use Rattle.predicate.specs.Sizes.{treeSize}
 use Rattle.listing.specs.Depth.{depth}
 use Rattle.reach.specs.Reached.{reachable}
@@ -72,9 +72,6 @@ abbrev pub stratumAnswer : List ℤ → ℤ → Count
 stratumAnswer s r = reported s (λ h. exists r (h .rules)) (λ h. stratum s h (num r))
 
 -- "the number of an operation's outcomes"
-abbrev pub outcomes : List ℤ → Header → ℕ → ℕ
-outcomes s h o = outcomesOf (operation s h o)
-
 abbrev pub outcomesAnswer : List ℤ → ℤ → Count
 outcomesAnswer s o = reported s (λ h. exists o (h .operations)) (λ h. outcomes s h (num o))
 

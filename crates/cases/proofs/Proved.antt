@@ -12,8 +12,7 @@ use Rattle.layout.specs.Header.{headerOf, inLimits, goodFrame, goodHeader}
 use Rattle.tables.specs.Lists.{has, allOf, distinct, joined as joined-lists, pick}
 use Rattle.item.specs.Items.{small}
 use Rattle.node.specs.FactTypes.{factTypeOf}
-use Rattle.node.specs.Rows.{rowOf}
-use Rattle.node.specs.Judged.{fits}
+use Rattle.node.specs.Rows.{rowOf, fits}
 use Rattle.records.specs.Accept.{tablesOf, goodIn, firstBad, checked}
 use Rattle.records.specs.Entities.{goodEntity, goodChange, goodTransition, sameChange, declared}
 use Rattle.records.specs.Facts.{goodDefault, agree, goodFact}
@@ -22,7 +21,7 @@ use Rattle.records.specs.Names.{namedByRules, namedByOperations, namedBySteps, 
 use Rattle.records.specs.Nodes.{itemStep, itemOf, treeStep, treeOf, namedByNodes, goodChildren, goodNode}
 use Rattle.records.specs.Operations.{goodMask, goodOperation, operationOf, goodOutcome, sameSource, goodEffectOf, goodEffect}
 use Rattle.records.specs.Rules.{citesLower, goodRule}
-use Rattle.facts.specs.Assembled.{taken as taken-facts, assembled}
+use Rattle.facts.specs.Assembled.{valueTaken, assembled}
 use Rattle.facts.specs.Faults.{factFault, firstRefused, factsFault}
 use Rattle.predicate.specs.Values.{valueStep, valueOf}
 use Rattle.predicate.specs.Verdicts.{verdictsTo, verdictsOf}
@@ -53,5 +52,5 @@ use Rattle.cases.specs.Sheets.{whole, sixRoutes, thirdOutcome, sumWith}
 use Rattle.cases.specs.CaseTable.{row, same, wrong, listed, ranFrom, judged, assembledWith, cases, wrote}
 
 pub none-wrong : wrong cases ≡ []
-unfolding holds canHold canFail eqZ within bounded num minZ maxZ recordAt wordsAt numbersOf unused allBelow anyBelow sumBelow firstFail grown entry goodGroup goodGroups headerOf inLimits goodFrame goodHeader has allOf distinct joined-lists pick small factTypeOf rowOf fits tablesOf goodIn firstBad checked goodEntity goodChange goodTransition sameChange declared goodDefault agree goodFact goodFlow goodOperationStep goodBranchStep goodStep flowOf stepOf goodRouteOf goodRoute namedByRules namedByOperations namedBySteps goodRoot itemStep itemOf treeStep treeOf namedByNodes goodChildren goodNode goodMask goodOperation operationOf goodOutcome sameSource goodEffectOf goodEffect citesLower goodRule taken-facts assembled factFault firstRefused factsFault valueStep valueOf verdictsTo verdictsOf mover newState applied allowed ofOutcome starts moves matched unblocked applicable firstApplicable chosen stateIn firstStray statesFault attemptedIf attempted statesAfter attemptedStates begins headOf following laid firstWalk firstLaid answerOf bufferOf nextWalk nextLaid greatest depth firstRouteOf routesOf ends target lastOf terminal onward inTurn pathsFrom paths path started taken-listing answerRoute branchRoute routeTaken statesThen begun stepped runOn ran ranWalk ranPath ranStates then unless reached by climb assembleRungs pathLent runRungs flowRungs publicCall publicCalls settled nextOpen leaves enters round flagged maskBelow reachable effectPasses reportRungs whole sixRoutes thirdOutcome sumWith row same wrong listed ranFrom judged assembledWith cases opened digitsIn digits sign decimal hasText magnitude value before judged-text all join line goodRow rows rowsOf textOf joined cut linesOf numbers wordsOf same-text goodLine refusedLine pathLine flowLines flowsLines sheetLines textCount wordsEntrance entrance written output wrote
+unfolding holds canHold canFail eqZ within bounded num minZ maxZ recordAt wordsAt numbersOf unused allBelow anyBelow sumBelow firstFail grown entry goodGroup goodGroups headerOf inLimits goodFrame goodHeader has allOf distinct joined-lists pick small factTypeOf rowOf fits tablesOf goodIn firstBad checked goodEntity goodChange goodTransition sameChange declared goodDefault agree goodFact goodFlow goodOperationStep goodBranchStep goodStep flowOf stepOf goodRouteOf goodRoute namedByRules namedByOperations namedBySteps goodRoot itemStep itemOf treeStep treeOf namedByNodes goodChildren goodNode goodMask goodOperation operationOf goodOutcome sameSource goodEffectOf goodEffect citesLower goodRule valueTaken assembled factFault firstRefused factsFault valueStep valueOf verdictsTo verdictsOf mover newState applied allowed ofOutcome starts moves matched unblocked applicable firstApplicable chosen stateIn firstStray statesFault attemptedIf attempted statesAfter attemptedStates begins headOf following laid firstWalk firstLaid answerOf bufferOf nextWalk nextLaid greatest depth firstRouteOf routesOf ends target lastOf terminal onward inTurn pathsFrom paths path started taken-listing answerRoute branchRoute routeTaken statesThen begun stepped runOn ran ranWalk ranPath ranStates then unless reached by climb assembleRungs pathLent runRungs flowRungs publicCall publicCalls settled nextOpen leaves enters round flagged maskBelow reachable effectPasses reportRungs whole sixRoutes thirdOutcome sumWith row same wrong listed ranFrom judged assembledWith cases opened digitsIn digits sign decimal hasText magnitude value before judged-text all join line goodRow rows rowsOf textOf joined cut linesOf numbers wordsOf same-text goodLine refusedLine pathLine flowLines flowsLines sheetLines textCount wordsEntrance entrance written output wrote
 none-wrong = refl

@@ -22,13 +22,14 @@ use Rattle.operation.specs.declared.Choice.the-variants.{Outcome}
 use Rattle.operation.specs.Mask.{allowed}
 use Rattle.operation.specs.States.{present}
 use Rattle.operation.specs.Outcomes.{chosen}
-use Rattle.operation.specs.Changes.{performed}
+use Rattle.operation.specs.Inner.{performed}
 use Rattle.operation.proofs.Movers.{Moves}
 use Rattle.operation.proofs.Guarantees.{Changed, performed-by, changes}
 use Rattle.reach.specs.Moves.{leaves, leads}
 use Rattle.reach.specs.Reached.{Reached}
 use Rattle.reach.proofs.Steps.{reached-after}
-use Rattle.attempt.specs.Attempts.{precondition, Attemptable, attempted, attemptedStates}
+use Rattle.attempt.specs.Attempts.{precondition, attempted, attemptedStates}
+use Rattle.attempt.specs.Inner.{Attemptable}
 use Rattle.attempt.proofs.AttemptLaws.{Comes, barred, untrue, stuck, went, comes, outcome-states, refused-states}
 use Rattle.causes.specs.Causes.{canBeTrue, admissible, causes, canCause}
 use Rattle.causes.proofs.Effects.{some-of}

@@ -23,7 +23,8 @@ use Rattle.operation.specs.declared.Effects.{Effects}
 use Rattle.operation.specs.Inner.{effectsOf}
 use Rattle.operation.proofs.Targets.{first-is, end-is}
 use Rattle.reach.specs.Moves.{leaves, leads}
-use Rattle.causes.specs.Causes.{wanted, effectPasses, someEffect}
+use Rattle.causes.specs.Causes.{effectPasses, someEffect}
+use Rattle.causes.specs.Inner.{wanted}
 
 -- effect e is one of operation o's, and passes f
 pub record Passes (s : List ℤ) (h : Header) (o : ℕ) (f : Record → Bool) (e : ℕ) : Type 0 where

@@ -2,7 +2,7 @@
 -- Assumes nothing.
 use Prim.Native.Nat.{ℕ}
 use lib.IntN.{ℤ, pos}
-use mathlib.Core.Bool.{Bool, true, false, _&&_}
+use mathlib.Core.Bool.{Bool, _&&_}
 use mathlib.Core.List.{List}
 use lib.Dec.{leb, ltb}
 use Rattle.tables.specs.Scan.{anyBelow}
@@ -23,11 +23,6 @@ effectPasses s h o f e = leb (effectStartOf (operation s h o)) e && ltb e (effec
 -- some effect of operation o passes the test f
 unfoldable pub someEffect : List ℤ → Header → ℕ → (Record → Bool) → Bool
 someEffect s h o f = anyBelow (effectPasses s h o f) (h .effects)
-
--- what an effect is looked for by: that it starts from state a of entity n, and with `on` that it leads to state b as well
-unfoldable pub wanted : Bool → ℕ → ℕ → ℕ → Record → Bool
-wanted true n a b = leads n a b
-wanted false n a b = leaves n a
 
 -- a range includes 1
 abbrev pub includesOne : Item → Bool

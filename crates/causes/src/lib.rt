@@ -2,7 +2,8 @@
 ghost use mathlib.Core.Path.{_≡_};
 ghost use Prim.Native.Nat.{_<_};
 ghost use Rattle.records.specs.Accepted.{Accepted};
-ghost use Rattle.causes.specs.Causes.{wanted, someEffect, canBeTrue, admissible, canCause};
+ghost use Rattle.causes.specs.Causes.{someEffect, canBeTrue, admissible, canCause};
+ghost use Rattle.causes.specs.Inner.{wanted};
 use layout::Entity;
 use layout::Header;
 use layout::Node;

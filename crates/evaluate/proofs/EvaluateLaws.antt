@@ -9,16 +9,17 @@ use Rattle.tables.proofs.Bools.{tests}
 use Rattle.signed.specs.Words.{num}
 use Rattle.answer.specs.declared.Status.the-variants.{Done, Refused}
 use Rattle.answer.specs.declared.Count.the-variants.{Refused as NoCount}
-use Rattle.answer.specs.Answers.{SmallStatus, SmallCount}
+use Rattle.answer.specs.Inner.{SmallStatus, SmallCount}
 use Rattle.layout.specs.declared.Header.{Header}
 use Rattle.facts.specs.Faults.{factsFault}
-use Rattle.facts.specs.Assembled.{FactsIn, assembled}
+use Rattle.facts.specs.Assembled.{assembled}
+use Rattle.facts.specs.Inner.{FactsIn}
 use Rattle.facts.proofs.FaultLaws.{facts-in, fault-small}
 use Rattle.predicate.specs.Verdicts.{verdictsOf}
 use Rattle.predicate.proofs.VerdictLaws.{verdicts-true}
 use Rattle.operation.specs.States.{statesFault}
 use Rattle.operation.proofs.LentStates.{states-in, stray-small}
-use Rattle.attempt.specs.Attempts.{Attemptable}
+use Rattle.attempt.specs.Inner.{Attemptable}
 use Rattle.attempt.proofs.AttemptLaws.{attempt-small}
 use Rattle.ladder.specs.declared.Climbed.{Climbed}
 use Rattle.ladder.specs.declared.Climbed.the-variants.{At}
@@ -26,16 +27,16 @@ use Rattle.ladder.specs.Ladder.{opened, climb}
 use Rattle.ladder.proofs.ClimbLaws.{Past, passed, climbed-at, opened-at}
 use Rattle.ladder.proofs.Small.{rungs-small, call-small}
 use Rattle.calls.specs.Evaluation.{assembleRungs, assembleAnswer, verdictsRungs, verdictsAnswer, operateRungs, operateClimb, operateAnswer}
-use Rattle.evaluate.specs.Settled.{Known, Asked}
+use Rattle.evaluate.specs.Settled.{LentFacts, LentOperation}
 
 -- ---- once the ladder is climbed
 
 -- the facts come to values in their ranges
-pub known-in : {s : List ℤ} {h : Header} {values given : List ℤ} → Known s h values given → FactsIn s h (assembled s h values given)
+pub known-in : {s : List ℤ} {h : Header} {values given : List ℤ} → LentFacts s h values given → FactsIn s h (assembled s h values given)
 known-in {s} {h} {values} {given} k = facts-in s h values given (k .sheet) (k .faultless)
 
 -- and the operation can be attempted over them and their verdicts
-pub attemptable : {s : List ℤ} {h : Header} {values given states facts verdicts : List ℤ} {p o : ℕ} → Asked s h values given states p o
+pub attemptable : {s : List ℤ} {h : Header} {values given states facts verdicts : List ℤ} {p o : ℕ} → LentOperation s h values given states p o
     → facts ≡ assembled s h values given → verdicts ≡ verdictsOf s h (assembled s h values given) → Attemptable s h facts verdicts states p o
 attemptable {s} {h} {values} {given} a e v =
     record {
@@ -47,7 +48,7 @@ attemptable {s} {h} {values} {given} a e v =
 
 -- what an operation asks, where nothing is refused
 pub asked : (s values given states : List ℤ) (p o : ℤ) {h : Header} {x : Climbed} → x ≡ operateClimb s values given states p o → x ≡ At h
-    → Asked s h values given states (num p) (num o)
+    → LentOperation s h values given states (num p) (num o)
 unfolding operateRungs
 asked s values given states p o {h} e q =
     let w = climbed-at (opened s) (operateRungs s values given states p o) e q in

@@ -5,7 +5,7 @@ ghost use Rattle.facts.specs.Assembled.{assembled};
 ghost use Rattle.predicate.specs.Verdicts.{verdictsOf};
 ghost use Rattle.calls.specs.Evaluation.{assembleClimb, assembleAnswer, assembleValues, verdictsClimb, verdictsAnswer, verdictsVerdicts};
 ghost use Rattle.calls.specs.Evaluation.{attemptedOver, attemptedStatesOver, operateClimb, operateAnswer, operateStates};
-ghost use Rattle.evaluate.specs.Settled.{Known, Asked};
+ghost use Rattle.evaluate.specs.Settled.{LentFacts, LentOperation};
 use answer::Count;
 use answer::Status;
 use attempt::attempt;
@@ -60,7 +60,7 @@ pub fn settle(
     facts: &mut [i64],
     verdicts: &mut [i64],
 )
-    requires { ⌜ Known (now s) h (now values) (now given) ⌝ }
+    requires { ⌜ LentFacts (now s) h (now values) (now given) ⌝ }
     requires { ⌜ (length (now facts) ≡ h .facts) × (length (now verdicts) ≡ h .rules) ⌝ }
     ensures { λ _. ⌜ now (facts .exit) ≡ assembled (now (s .entry)) h (now (values .entry)) (now (given .entry)) ⌝ }
     ensures { λ _. ⌜ now (verdicts .exit) ≡ verdictsOf (now (s .entry)) h (assembled (now (s .entry)) h (now (values .entry)) (now (given .entry))) ⌝ }
@@ -71,7 +71,7 @@ pub fn settle(
 
 // The verdicts over the lent facts.
 fn judge(s: &[i64], h: Header, values: &[i64], given: &[i64], verdicts: &mut [i64])
-    requires { ⌜ Known (now s) h (now values) (now given) ⌝ }
+    requires { ⌜ LentFacts (now s) h (now values) (now given) ⌝ }
     requires { ⌜ length (now verdicts) ≡ h .rules ⌝ }
     ensures { λ _. ⌜ now (verdicts .exit) ≡ verdictsOf (now (s .entry)) h (assembled (now (s .entry)) h (now (values .entry)) (now (given .entry))) ⌝ }
 {
@@ -120,7 +120,7 @@ fn act_on(
     p: Persona,
     o: Operation,
 ) -> Count
-    requires { ⌜ Asked (now s) h (now values) (now given) (now states) (p .0) (o .0) ⌝ }
+    requires { ⌜ LentOperation (now s) h (now values) (now given) (now states) (p .0) (o .0) ⌝ }
     requires { ⌜ (length (now facts) ≡ h .facts) × (length (now verdicts) ≡ h .rules) ⌝ }
     ensures { λ r. ⌜ r ≡ attemptedOver (now (s .entry)) h (now (values .entry)) (now (given .entry)) (now (states .entry)) (p .0) (o .0) ⌝ }
     ensures { λ r. ⌜ now (states .exit) ≡ attemptedStatesOver (now (s .entry)) h (now (values .entry)) (now (given .entry)) (now (states .entry)) (p .0) (o .0) ⌝ }
@@ -138,7 +138,7 @@ fn act(
     p: Persona,
     o: Operation,
 ) -> Count
-    requires { ⌜ Asked (now s) h (now values) (now given) (now states) (p .0) (o .0) ⌝ }
+    requires { ⌜ LentOperation (now s) h (now values) (now given) (now states) (p .0) (o .0) ⌝ }
     ensures { λ r. ⌜ r ≡ attemptedOver (now (s .entry)) h (now (values .entry)) (now (given .entry)) (now (states .entry)) (p .0) (o .0) ⌝ }
     ensures { λ r. ⌜ now (states .exit) ≡ attemptedStatesOver (now (s .entry)) h (now (values .entry)) (now (given .entry)) (now (states .entry)) (p .0) (o .0) ⌝ }
 {

@@ -18,12 +18,13 @@ use Rattle.signed.proofs.Bounds.{true-in}
 use Rattle.words.specs.Record.{word, recordAt}
 use Rattle.answer.specs.declared.Refusal.the-variants.{FactValue, FactAbsent}
 use Rattle.answer.specs.declared.Status.the-variants.{Done, Refused}
-use Rattle.answer.specs.Answers.{SmallStatus}
+use Rattle.answer.specs.Inner.{SmallStatus}
 use Rattle.layout.specs.declared.Header.{Header}
 use Rattle.records.specs.Accepted.{Accepted}
 use Rattle.records.proofs.FactLaws.{fact-ok}
 use Rattle.facts.specs.Faults.{inFact, hasDefault, factFault, factsFault}
-use Rattle.facts.specs.Assembled.{taken, assembled, FactsIn}
+use Rattle.facts.specs.Assembled.{valueTaken, assembled}
+use Rattle.facts.specs.Inner.{FactsIn}
 use Rattle.facts.proofs.Refused.{none-refused, first-by}
 
 module _ (s : List ℤ) (k : ℕ) (x g : ℤ) where
@@ -50,26 +51,26 @@ module _ (s : List ℤ) (k : ℕ) (x g : ℤ) where
       (λ p. ⊎-elim (λ q. rw (fair p q) tt) (λ q. rw (unfair p q) l) (bool-cases (eqZ g (pos 1) && inFact s k x))) (bool-cases (eqZ g (pos 0)))
 
   -- a given value is taken as it is, and else the default
-  pub taken-default : eqZ g (pos 0) ≡ true → taken s k x g ≡ word s k 4
-  unfolding taken
+  pub taken-default : eqZ g (pos 0) ≡ true → valueTaken s k x g ≡ word s k 4
+  unfolding valueTaken
   taken-default p = rw p
 
-  pub taken-value : eqZ g (pos 0) ≡ false → taken s k x g ≡ x
-  unfolding taken
+  pub taken-value : eqZ g (pos 0) ≡ false → valueTaken s k x g ≡ x
+  unfolding valueTaken
   taken-value p = rw p
 
   -- without a fault the value taken lies in min..max
-  pub taken-in : (h : Header) → Accepted s h → k < h .facts → factFault s k x g ≡ Done → inFact s k (taken s k x g) ≡ true
+  pub taken-in : (h : Header) → Accepted s h → k < h .facts → factFault s k x g ≡ Done → inFact s k (valueTaken s k x g) ≡ true
   unfolding recordAt
   taken-in h a l e = ⊎-elim not-given given (bool-cases (eqZ g (pos 0)))
     where
-      not-given : eqZ g (pos 0) ≡ true → inFact s k (taken s k x g) ≡ true
+      not-given : eqZ g (pos 0) ≡ true → inFact s k (valueTaken s k x g) ≡ true
       not-given p =
           rw (taken-default p)
           (⊎-elim (λ q. true-in (word s k 1) (word s k 4) (word s k 2) (fact-ok s k (a .facts k l) .default (eqb-true _ 1 q)))
           (λ q. absurd (refused-done (sym (absent p q) ∙ e))) (bool-cases (hasDefault s k)))
 
-      given : eqZ g (pos 0) ≡ false → inFact s k (taken s k x g) ≡ true
+      given : eqZ g (pos 0) ≡ false → inFact s k (valueTaken s k x g) ≡ true
       given p =
           rw (taken-value p)
           (⊎-elim (λ q. and-right (eqZ g (pos 1)) (inFact s k x) q) (λ q. absurd (refused-done (sym (unfair p q) ∙ e)))
@@ -77,7 +78,7 @@ module _ (s : List ℤ) (k : ℕ) (x g : ℤ) where
 
 module _ (s : List ℤ) (h : Header) (values given : List ℤ) where
   abbrev value : ℕ → ℤ
-  value k = taken s k (getD values k (pos 0)) (getD given k (pos 0))
+  value k = valueTaken s k (getD values k (pos 0)) (getD given k (pos 0))
 
   -- entry k of the assembled facts
   pub assembled-at : (k : ℕ) → k < h .facts → getD (assembled s h values given) k (pos 0) ≡ value k

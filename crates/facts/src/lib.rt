@@ -7,7 +7,7 @@ ghost use mathlib.Core.Bool.{_&&_};
 ghost use Rattle.signed.specs.Words.{eqZ};
 ghost use Rattle.records.specs.Accepted.{Accepted};
 ghost use Rattle.facts.specs.Faults.{inFact, factFault, factsFault};
-ghost use Rattle.facts.specs.Assembled.{taken, assembled};
+ghost use Rattle.facts.specs.Assembled.{valueTaken, assembled};
 use answer::Refusal;
 use answer::Status;
 use layout::Header;
@@ -61,7 +61,7 @@ pub fn judge_facts(s: &[i64], h: Header, values: &[i64], given: &[i64]) -> Statu
 // The value of fact k, lent as x with the given flag g.
 fn take_fact(s: &[i64], k: usize, x: i64, g: i64) -> i64
     requires { ⌜ 16 + 8 * k + 8 ≤ length (now s) ⌝ }
-    ensures { λ r. ⌜ r ≡ taken (now (s .entry)) k x g ⌝ }
+    ensures { λ r. ⌜ r ≡ valueTaken (now (s .entry)) k x g ⌝ }
 {
     let absent = same(g, 0);
     if absent {

@@ -20,7 +20,7 @@ use Rattle.records.specs.Entities.{states as stateCount}
 use Rattle.records.proofs.OperationLaws.{effect-ok}
 use Rattle.operation.specs.States.{present}
 use Rattle.operation.proofs.Movers.{Moves}
-use Rattle.attempt.specs.Attempts.{Attemptable}
+use Rattle.attempt.specs.Inner.{Attemptable}
 use Rattle.attempt.proofs.AttemptLaws.{attempted-in}
 use Rattle.facts.specs.Assembled.{assembled}
 use Rattle.predicate.specs.Verdicts.{verdictsOf}
@@ -33,7 +33,7 @@ use Rattle.ladder.specs.Ladder.{opened, climb}
 use Rattle.ladder.proofs.ClimbLaws.{stopped, worked, by-all, climbed-at, opened-at}
 use Rattle.calls.specs.Evaluation.{operateRungs, operateClimb, attemptedOver, attemptedStatesOver, operateAnswer, operateStates}
 use Rattle.calls.specs.Reports.{stateExists, admissibleNumbers, causeNumbers, admissibleAnswer, canCauseAnswer}
-use Rattle.evaluate.specs.Settled.{Asked}
+use Rattle.evaluate.specs.Settled.{LentOperation}
 use Rattle.evaluate.proofs.EvaluateLaws.{attemptable, asked}
 use Rattle.reports.proofs.ReportLaws.{report-exists}
 
@@ -61,7 +61,7 @@ module _ (s values given states : List ℤ) (p o : ℤ) where
   made-sheet : Made → opened s ≡ At (headerOf s)
   made-sheet e = climbed-at (opened s) (operateRungs s values given states p o) refl e .sheet
 
-  made-asked : Made → Asked s (headerOf s) values given states (num p) (num o)
+  made-asked : Made → LentOperation s (headerOf s) values given states (num p) (num o)
   made-asked e = asked s values given states p o refl e
 
   -- so that it was an attempt

@@ -34,7 +34,7 @@ use Rattle.calls.specs.Flows.{firstAnswer, firstPath, nextAnswer, nextPath, run
 use Rattle.calls.specs.Reports.{reachableAnswer}
 use Rattle.calls.specs.Lists.{publicCall, publicCalls, ListedNumbers}
 use Rattle.flows.proofs.PublicListing.{public-numbers, public-whole}
-use Rattle.fernpocket.specs.Promised.{Went, WasRefused, Ready, readTo13, RanPath, Operated, Foreseen}
+use Rattle.fernpocket.specs.Promised.{Went, WasRefused, FlowReady, readTo13, RanPath, Operated, Foreseen}
 use Rattle.fernpocket.proofs.Covered.{covered, applied-covered, still-reached}
 use Rattle.fernpocket.proofs.InNumbers.{went-is, listable, ready-sheet, ready-flow, read-same, ran-path, operated, mask-reached}
 use Rattle.fernpocket.proofs.InNumbers.{read-kept, write-kept, assemble-kept, verdicts-kept, operate-kept}
@@ -159,7 +159,7 @@ one-text-of-words text text′ lent lent′ n w w′ e =
 
 -- ---- demand 3: the list of paths
 
-module _ {s : List ℤ} {flow : ℤ} {path : List ℕ} (u : Ready s flow path) where
+module _ {s : List ℤ} {flow : ℤ} {path : List ℕ} (u : FlowReady s flow path) where
   -- `paths` has every path of the flow and nothing else, in 01's order,
   pub paths-all : WholeList s (headerOf s) (num flow) (paths s (headerOf s) (num flow))
   paths-all = paths-whole s (headerOf s) (ready-sheet u) (num flow) (ready-flow u)

@@ -31,9 +31,10 @@ use Rattle.operation.proofs.Guarantees.{Fate, moved as Goes, unmoved as Stays, 
 use Rattle.facts.specs.Assembled.{assembled}
 use Rattle.predicate.specs.Verdicts.{verdictsOf}
 use Rattle.attempt.proofs.AttemptLaws.{Comes, barred, untrue, stuck, went, comes, outcome-states, refused-states}
-use Rattle.listing.specs.Paths.{PathOf, paths, At as In}
+use Rattle.listing.specs.Paths.{PathOf, paths, Among}
 use Rattle.listing.specs.Calls.{Following, Absent, Final, Then, following, firstWalk, nextWalk, nextLaid, answerOf, bufferOf}
-use Rattle.listing.specs.Lists.{Call, First, Next, State, nexts, count, Listed}
+use Rattle.listing.specs.Lists.{Call, First, Next, State, nexts, count}
+use Rattle.listing.specs.Inner.{Listed}
 use Rattle.listing.proofs.AllPaths.{path-list}
 use Rattle.run.proofs.RunPaths.{run-listed}
 use Rattle.reach.specs.Reached.{Reached}
@@ -46,13 +47,14 @@ use Rattle.calls.specs.Evaluation.{operateClimb, attemptedOver, attemptedStates
 use Rattle.calls.specs.Flows.{flowClimb, firstAnswer, firstPath, nextAnswer, nextPath}
 use Rattle.calls.specs.Flows.{runRungs, runClimb, ranWalkOver, runAnswer, runPath, runStates}
 use Rattle.calls.specs.Reports.{reportRungs, reportClimb, reachableAnswer}
-use Rattle.calls.specs.Lists.{publicCall, publicCalls, publicReadOff, Listable, TookPath}
+use Rattle.calls.specs.Lists.{publicCall, publicCalls}
+use Rattle.calls.specs.Inner.{publicReadOff, Listable, TookPath}
 use Rattle.flows.proofs.FlowCallLaws.{runnable, going}
 use Rattle.flows.proofs.PublicListing.{public-listing, run-takes-path}
 use Rattle.text.specs.Lines.{wordsOf, textOf}
 use Rattle.text.specs.Calls.{readAnswer, readBuffer, writeAnswer, writeBuffer, filled}
 use Rattle.reports.proofs.ReportLaws.{asked, reachable-is}
-use Rattle.fernpocket.specs.Promised.{Went, WasRefused, Ready, readTo13, RanPath, After, moved, stayed, Operated}
+use Rattle.fernpocket.specs.Promised.{Went, WasRefused, FlowReady, readTo13, RanPath, After, moved, stayed, Operated}
 use Rattle.fernpocket.proofs.Covered.{under-header, Made, made, made-after, attempt-ready}
 
 -- ---- answers
@@ -62,10 +64,10 @@ went-is c {n} w = count-done c n (w .refusal) (w .value)
 
 -- ---- lists of calls
 
-pub listable : {s : List ℤ} {f : ℤ} {b : List ℕ} → Ready s f b → Listable s (headerOf s) f b
+pub listable : {s : List ℤ} {f : ℤ} {b : List ℕ} → FlowReady s f b → Listable s (headerOf s) f b
 listable {s} u = record { sheet = sym (opened-done s (status-done _ (u .sheet))); flow = u .flow; room = u .room }
 
-module _ {s : List ℤ} {f : ℤ} {b : List ℕ} (u : Ready s f b) where
+module _ {s : List ℤ} {f : ℤ} {b : List ℕ} (u : FlowReady s f b) where
   pub ready-sheet : Accepted s (headerOf s)
   ready-sheet = accepted s (status-done _ (u .sheet))
 
@@ -122,7 +124,7 @@ module _ (s values given states : List ℤ) (f : ℤ) (b : List ℕ) where
           let header : headerOf s ≡ r .header = opened-at s refl (r .sheet) .header in
           let lent = going s values given states f b refl (under-header s (runRungs s values given states f (length b)) p) .lent in
           let whole = path-list s (headerOf s) (lent .sheet) (num f) (lent .flow) .whole in
-          let listed : In (paths s (headerOf s) (num f)) (r .path) = rw header (r .listed) in
+          let listed : Among (paths s (headerOf s) (num f)) (r .path) = rw header (r .listed) in
           record {
             path = r .path;
             is = subst (PathOf s (headerOf s) (num f)) (listed .is) (whole .sound (listed .number) (listed .below));

@@ -21,7 +21,7 @@ use Rattle.predicate.specs.Verdicts.{verdictsOf}
 use Rattle.operation.specs.Mask.{allowed}
 use Rattle.operation.specs.Outcomes.{moves, applicable}
 use Rattle.attempt.specs.Attempts.{precondition}
-use Rattle.listing.specs.Paths.{stepsOf, PathOf, terminal, paths, At}
+use Rattle.listing.specs.Paths.{stepsOf, PathOf, terminal, paths, Among}
 use Rattle.listing.specs.Calls.{laid}
 use Rattle.listing.specs.Lists.{Next, State}
 use Rattle.ladder.specs.Ladder.{exists}
@@ -44,7 +44,7 @@ WasRefused a = a .refusal ≡ pos 0 → ⊥
 -- ---- the list of paths
 
 -- "any accepted sheet, any flow in it and a path buffer at least as long as the flow has steps"; fernpocket_check answers refusal 0
-pub record Ready (s : List ℤ) (f : ℤ) (b : List ℕ) : Type 0 where
+pub record FlowReady (s : List ℤ) (f : ℤ) (b : List ℕ) : Type 0 where
   pub sheet : statusAnswer (checked s) .refusal ≡ pos 0
   pub flow : exists f (headerOf s .flows) ≡ true
   pub room : stepsOf s (headerOf s) (num f) ≤ length b
@@ -64,7 +64,7 @@ readTo13 s f (suc k) t =
 pub record RanPath (s values given states : List ℤ) (f : ℤ) (b : List ℕ) : Type 0 where
   pub path : List ℕ
   pub is : PathOf s (headerOf s) (num f) path
-  pub listed : At (paths s (headerOf s) (num f)) path
+  pub listed : Among (paths s (headerOf s) (num f)) path
   pub left : runPath s values given states f b ≡ laid path b
   pub value : walkAnswer (runAnswer s values given states f b) .value ≡ pos (terminal s (headerOf s) path)
   pub long : walkAnswer (runAnswer s values given states f b) .length ≡ pos (length path)

@@ -11,6 +11,8 @@ use answer::Answer;
 use answer::of_count;
 use answer::of_status;
 use answer::of_walk;
+use reports::Report;
+use reports::look_up;
 
 // The sheet checker.
 #[no_mangle]
@@ -117,7 +119,7 @@ pub extern "C" fn fernpocket_next(sheet: &[i64], flow: i64, path: &mut [u16]) ->
 pub extern "C" fn fernpocket_states(sheet: &[i64], entity: i64) -> Answer
     ensures { λ a. ⌜ a ≡ countAnswer (statesAnswer (now (sheet .entry)) entity) ⌝ }
 {
-    of_count(reports::states(sheet, entity))
+    of_count(look_up(sheet, Report::States, entity))
 }
 
 // S2: the mask of the states reached from the initial one.
@@ -125,7 +127,7 @@ pub extern "C" fn fernpocket_states(sheet: &[i64], entity: i64) -> Answer
 pub extern "C" fn fernpocket_reachable(sheet: &[i64], entity: i64) -> Answer
     ensures { λ a. ⌜ a ≡ countAnswer (reachableAnswer (now (sheet .entry)) entity) ⌝ }
 {
-    of_count(reports::reachable(sheet, entity))
+    of_count(look_up(sheet, Report::Reachable, entity))
 }
 
 // S3a: 1 for yes, 0 for no.
@@ -169,7 +171,7 @@ pub extern "C" fn fernpocket_rules(sheet: &[i64]) -> Answer
 pub extern "C" fn fernpocket_stratum(sheet: &[i64], rule: i64) -> Answer
     ensures { λ a. ⌜ a ≡ countAnswer (stratumAnswer (now (sheet .entry)) rule) ⌝ }
 {
-    of_count(reports::stratum(sheet, rule))
+    of_count(look_up(sheet, Report::Stratum, rule))
 }
 
 // S5: the number of an operation's outcomes.
@@ -177,7 +179,7 @@ pub extern "C" fn fernpocket_stratum(sheet: &[i64], rule: i64) -> Answer
 pub extern "C" fn fernpocket_outcomes(sheet: &[i64], operation: i64) -> Answer
     ensures { λ a. ⌜ a ≡ countAnswer (outcomesAnswer (now (sheet .entry)) operation) ⌝ }
 {
-    of_count(reports::outcomes(sheet, operation))
+    of_count(look_up(sheet, Report::Outcomes, operation))
 }
 
 // S7: the number of nodes in the tree under a node.
@@ -185,7 +187,7 @@ pub extern "C" fn fernpocket_outcomes(sheet: &[i64], operation: i64) -> Answer
 pub extern "C" fn fernpocket_tree_size(sheet: &[i64], node: i64) -> Answer
     ensures { λ a. ⌜ a ≡ countAnswer (treeSizeAnswer (now (sheet .entry)) node) ⌝ }
 {
-    of_count(reports::tree_size(sheet, node))
+    of_count(look_up(sheet, Report::TreeSize, node))
 }
 
 // S7: the number of steps on a flow's longest path.
@@ -193,5 +195,5 @@ pub extern "C" fn fernpocket_tree_size(sheet: &[i64], node: i64) -> Answer
 pub extern "C" fn fernpocket_depth(sheet: &[i64], flow: i64) -> Answer
     ensures { λ a. ⌜ a ≡ countAnswer (depthAnswer (now (sheet .entry)) flow) ⌝ }
 {
-    of_count(reports::depth(sheet, flow))
+    of_count(look_up(sheet, Report::Depth, flow))
 }

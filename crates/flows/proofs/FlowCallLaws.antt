@@ -11,7 +11,7 @@ use borrow.Author.Tests.{leb-true, ltb-true}
 use Rattle.tables.proofs.Bools.{and-left, and-right, tests}
 use Rattle.signed.specs.Words.{num}
 use Rattle.answer.specs.declared.Walk.the-variants.{Refused as NoWalk}
-use Rattle.answer.specs.Answers.{SmallWalk}
+use Rattle.answer.specs.Inner.{SmallWalk}
 use Rattle.layout.specs.declared.Header.{Header}
 use Rattle.records.specs.Accepted.{Accepted}
 use Rattle.facts.specs.Assembled.{assembled}
@@ -19,9 +19,9 @@ use Rattle.predicate.specs.Verdicts.{verdictsOf}
 use Rattle.predicate.proofs.VerdictLaws.{verdicts-true}
 use Rattle.operation.proofs.LentStates.{states-in}
 use Rattle.listing.specs.Paths.{stepsOf}
-use Rattle.listing.specs.Calls.{Lent}
+use Rattle.listing.specs.Inner.{Lent}
 use Rattle.listing.proofs.Answers.{first-small, next-small}
-use Rattle.run.specs.Runs.{Runnable}
+use Rattle.run.specs.Inner.{Runnable}
 use Rattle.run.proofs.RunPaths.{run-small}
 use Rattle.ladder.specs.declared.Climbed.{Climbed}
 use Rattle.ladder.specs.declared.Climbed.the-variants.{At}
@@ -30,7 +30,7 @@ use Rattle.ladder.proofs.ClimbLaws.{passed, climbed-at, opened-at}
 use Rattle.ladder.proofs.Small.{rungs-small, call-small}
 use Rattle.calls.specs.Flows.{pathLent, flowRungs, flowClimb, firstAnswer, nextAnswer, runRungs, runClimb, runAnswer}
 use Rattle.evaluate.proofs.EvaluateLaws.{known-in, facts-small, states-small}
-use Rattle.flows.specs.Going.{Going}
+use Rattle.flows.specs.Going.{LentRun}
 
 -- ---- the path buffer
 
@@ -58,7 +58,7 @@ flow-lent s f b e q =
 
 -- a run, of the ladder
 pub going : (s values given states : List ℤ) (f : ℤ) (b : List ℕ) {h : Header} {x : Climbed} → x ≡ runClimb s values given states f (length b) → x ≡ At h
-    → Going s h values given states (num f) b
+    → LentRun s h values given states (num f) b
 unfolding runRungs
 going s values given states f b {h} e q =
     let w = climbed-at (opened s) (runRungs s values given states f (length b)) e q in
@@ -72,7 +72,7 @@ going s values given states f b {h} e q =
     }
 
 -- and of the work below it
-pub runnable : {s : List ℤ} {h : Header} {values given states facts verdicts : List ℤ} {f : ℕ} {b : List ℕ} → Going s h values given states f b
+pub runnable : {s : List ℤ} {h : Header} {values given states facts verdicts : List ℤ} {f : ℕ} {b : List ℕ} → LentRun s h values given states f b
     → facts ≡ assembled s h values given → verdicts ≡ verdictsOf s h (assembled s h values given) → Runnable s h facts verdicts states f b
 runnable {s} {h} {values} {given} g e v =
     record {

@@ -16,9 +16,9 @@ use Rattle.answer.specs.declared.Status.the-variants.{Done}
 use Rattle.layout.specs.declared.Header.{Header}
 use Rattle.facts.specs.Assembled.{assembled}
 use Rattle.predicate.specs.Verdicts.{verdictsOf}
-use Rattle.listing.specs.Paths.{stepsOf, paths, PathList}
-use Rattle.listing.specs.Calls.{Lent}
-use Rattle.listing.specs.Lists.{Call, First, Next, State, called, calledOn, nexts, count, Listed, readOff}
+use Rattle.listing.specs.Paths.{stepsOf, paths}
+use Rattle.listing.specs.Inner.{PathList, Lent, called, calledOn, Listed, readOff}
+use Rattle.listing.specs.Lists.{Call, First, Next, State, nexts, count}
 use Rattle.listing.proofs.Listing.{calls-listed, listing, held-length, listing-whole, listing-paths}
 use Rattle.run.specs.Runs.{ran, ranPath}
 use Rattle.run.proofs.RunPaths.{run-listed}
@@ -26,7 +26,8 @@ use Rattle.ladder.specs.declared.Climbed.the-variants.{At}
 use Rattle.ladder.specs.Ladder.{opened}
 use Rattle.ladder.proofs.ClimbLaws.{all-passed, opened-at, climbed-at, climbs, by-all}
 use Rattle.calls.specs.Flows.{flowRungs, runRungs, runClimb, runAnswer}
-use Rattle.calls.specs.Lists.{publicCall, publicCalls, publicReadOff, ListedNumbers, Listable, TookPath}
+use Rattle.calls.specs.Lists.{publicCall, publicCalls, ListedNumbers}
+use Rattle.calls.specs.Inner.{publicReadOff, Listable, TookPath}
 use Rattle.flows.proofs.FlowCallLaws.{path-judged, runnable, going}
 
 -- ---- lists of calls

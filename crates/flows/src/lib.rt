@@ -4,7 +4,7 @@ ghost use lib.ListN.{length};
 ghost use Rattle.records.specs.Accepted.{Accepted};
 ghost use Rattle.calls.specs.Flows.{pathLent, flowClimb, firstAnswer, firstPath, nextAnswer, nextPath};
 ghost use Rattle.calls.specs.Flows.{ranWalkOver, ranPathOver, ranStatesOver, runClimb, runAnswer, runPath, runStates};
-ghost use Rattle.flows.specs.Going.{Going};
+ghost use Rattle.flows.specs.Going.{LentRun};
 use answer::Walk;
 use evaluate::settle;
 use ladder::Climbed;
@@ -79,7 +79,7 @@ fn go_on(
     flow: Flow,
     path: &mut [u16],
 ) -> Walk
-    requires { ⌜ Going (now s) h (now values) (now given) (now states) (flow .0) (now path) ⌝ }
+    requires { ⌜ LentRun (now s) h (now values) (now given) (now states) (flow .0) (now path) ⌝ }
     requires { ⌜ (length (now facts) ≡ h .facts) × (length (now verdicts) ≡ h .rules) ⌝ }
     ensures { λ r. ⌜ r ≡ ranWalkOver (now (s .entry)) h (now (values .entry)) (now (given .entry)) (now (states .entry)) (flow .0) ⌝ }
     ensures { λ r. ⌜ now (path .exit) ≡ ranPathOver (now (s .entry)) h (now (values .entry)) (now (given .entry)) (now (states .entry)) (flow .0) (now (path .entry)) ⌝ }
@@ -98,7 +98,7 @@ fn go(
     flow: Flow,
     path: &mut [u16],
 ) -> Walk
-    requires { ⌜ Going (now s) h (now values) (now given) (now states) (flow .0) (now path) ⌝ }
+    requires { ⌜ LentRun (now s) h (now values) (now given) (now states) (flow .0) (now path) ⌝ }
     ensures { λ r. ⌜ r ≡ ranWalkOver (now (s .entry)) h (now (values .entry)) (now (given .entry)) (now (states .entry)) (flow .0) ⌝ }
     ensures { λ r. ⌜ now (path .exit) ≡ ranPathOver (now (s .entry)) h (now (values .entry)) (now (given .entry)) (now (states .entry)) (flow .0) (now (path .entry)) ⌝ }
     ensures { λ r. ⌜ now (states .exit) ≡ ranStatesOver (now (s .entry)) h (now (values .entry)) (now (given .entry)) (now (states .entry)) (flow .0) ⌝ }

@@ -18,7 +18,8 @@ use Rattle.records.specs.Accepted.{Accepted}
 use Rattle.records.proofs.Acceptance.{accepted}
 use Rattle.ladder.specs.declared.Climbed.{Climbed}
 use Rattle.ladder.specs.declared.Climbed.the-variants.{At, Stopped}
-use Rattle.ladder.specs.Ladder.{then, unless, rungs, reached, opened, by, climb, after}
+use Rattle.ladder.specs.Ladder.{then, unless, rungs, reached, opened, by, climb}
+use Rattle.ladder.specs.Inner.{after}
 
 -- ---- rungs
 

@@ -11,7 +11,7 @@ use native.Mathlib.Omega.{arith}
 use native.Mathlib.Decide.{decLt}
 use Rattle.tables.proofs.Bools.{bool-cases}
 use Rattle.answer.specs.Number.{place}
-use Rattle.answer.specs.Answers.{SmallStatus}
+use Rattle.answer.specs.Inner.{SmallStatus}
 use Rattle.answer.specs.declared.Refusal.{Refusal}
 use Rattle.answer.specs.declared.Status.{Status}
 use Rattle.answer.specs.declared.Status.the-variants.{Done, Refused}

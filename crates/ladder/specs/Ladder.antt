@@ -55,10 +55,6 @@ climb o rest = by o Stopped (λ h. reached (rest h) h)
 abbrev pub left : {A : Type 0} → Climbed → A → (Header → A) → A
 left c old work = by c (λ _. old) work
 
--- the same by a status, where the header is known already
-unfoldable pub after : {A : Type 0} → Status → (Refusal → A) → A → A
-after t refused work = elim t [ Done ↦ work | Refused r ↦ refused r ]
-
 -- ---- the tests of 4 and 5
 
 -- 5: a number that a caller names exists where it is 0..n−1

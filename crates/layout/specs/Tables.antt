@@ -6,13 +6,10 @@ use mathlib.Core.List.{List}
 use Rattle.words.specs.declared.Record.{Record}
 use Rattle.words.specs.Record.{recordAt}
 use Rattle.layout.specs.declared.Header.{Header}
-use Rattle.layout.specs.Header.{firstNode, firstRule, firstEntity, firstTransition, firstOperation, firstEffect, firstFlow, firstStep, firstRoute}
+use Rattle.layout.specs.Header.{firstRule, firstEntity, firstTransition, firstOperation, firstEffect, firstFlow, firstStep, firstRoute}
 
 abbrev pub fact : List ℤ → ℕ → Record
 fact s k = recordAt s k
-
-abbrev pub node : List ℤ → Header → ℕ → Record
-node s h n = recordAt s (firstNode h + n)
 
 -- rule: stratum, when-node
 abbrev pub rule : List ℤ → Header → ℕ → Record

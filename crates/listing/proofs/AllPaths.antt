@@ -15,8 +15,8 @@ use Rattle.layout.specs.declared.Header.{Header}
 use Rattle.layout.specs.Tables.{flow, route}
 use Rattle.records.specs.Accepted.{Accepted}
 use Rattle.records.proofs.FlowLaws.{flow-ok}
-use Rattle.listing.specs.Paths.{stepsOf, firstRouteOf, routesOf, ends, target, RouteOf, PathFrom, last, next, PathOf, lastOf, terminal, Before, here, later, onward, inTurn, pathsFrom, paths, path, At, PathList}
-use Rattle.listing.specs.Walkers.{Way, pathsOn, pathsAfter}
+use Rattle.listing.specs.Paths.{stepsOf, firstRouteOf, routesOf, ends, target, RouteOf, PathFrom, last, next, PathOf, lastOf, terminal, Before, here, later, onward, inTurn, pathsFrom, paths, path, Among}
+use Rattle.listing.specs.Inner.{PathList, Way, pathsOn, pathsAfter}
 use Rattle.listing.proofs.Ways.{small-terminal, onward-ends, onward-leads, kind-ends, way-start, way-some, way-first, kind-leads, way-on, step-paths, paths-on}
 use Rattle.listing.proofs.Lists.{turn-mem, mem-turn, Ordered, none, more, ordered-turn, mem-at, ordered-at, number-of}
 use Rattle.listing.proofs.Follow.{turn-some}
@@ -124,7 +124,7 @@ module _ (s : List ℤ) (h : Header) (a : Accepted s h) where
     path-sound n k = paths-sound (path s h f n) (mem-at (paths s h f) n k)
 
     -- a path of the flow has a number
-    pub path-number : (p : List ℕ) → PathOf s h f p → At (paths s h f) p
+    pub path-number : (p : List ℕ) → PathOf s h f p → Among (paths s h f) p
     path-number p k = number-of (paths s h f) p (paths-complete p k)
 
 -- ---- paths are numbered in their order, so that no path has two numbers

@@ -8,13 +8,14 @@ use Prim.Native.Nat.{ℕ, _<_}
 use lib.IntN.{ℤ}
 use native.Mathlib.Omega.{arith}
 use Rattle.tables.proofs.Bools.{bool-cases}
-use Rattle.answer.specs.Answers.{SmallWalk}
+use Rattle.answer.specs.Inner.{SmallWalk}
 use Rattle.answer.specs.declared.Refusal.the-variants.{NotPath}
 use Rattle.answer.specs.declared.Walk.the-variants.{Refused}
 use Rattle.layout.specs.declared.Header.{Header}
 use Rattle.records.specs.Accepted.{Accepted}
 use Rattle.listing.specs.Paths.{PathOf, paths, path}
-use Rattle.listing.specs.Calls.{Lent, begins, Following, Absent, Final, Then, headOf, following, walkOf, firstWalk, answerOf, nextWalk}
+use Rattle.listing.specs.Calls.{begins, Following, Absent, Final, Then, headOf, following, walkOf, firstWalk, answerOf, nextWalk}
+use Rattle.listing.specs.Inner.{Lent}
 use Rattle.listing.proofs.Follow.{follow-here, follow-later}
 use Rattle.listing.proofs.Lists.{mem-at}
 use Rattle.listing.proofs.AllPaths.{path-small, paths-sound, paths-complete, paths-some}

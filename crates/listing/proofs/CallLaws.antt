@@ -14,10 +14,11 @@ use Rattle.answer.specs.declared.Walk.the-variants.{Refused}
 use Rattle.layout.specs.declared.Header.{Header}
 use Rattle.listing.specs.declared.Walker.{Walker}
 use Rattle.listing.specs.Paths.{firstRouteOf, paths, path}
-use Rattle.listing.specs.Walkers.{started, taken, walked, arrived, remaining, firstWay, Going}
+use Rattle.listing.specs.Walkers.{started, taken, arrived}
+use Rattle.listing.specs.Inner.{walked, remaining, firstWay, Going, Lent}
 use Rattle.listing.specs.declared.Found.{Found}
 use Rattle.listing.specs.declared.Found.the-variants.{Nowhere, Last, Turn}
-use Rattle.listing.specs.Calls.{Lent, Absent, Final, Then, following, walkOf, laid, firstWalk, firstLaid, answerOf, bufferOf, nextWalk, nextLaid}
+use Rattle.listing.specs.Calls.{Absent, Final, Then, following, walkOf, laid, firstWalk, firstLaid, answerOf, bufferOf, nextWalk, nextLaid}
 use Rattle.listing.specs.Seeks.{turnRoute, turned, turning, Turnable, CanTurn, Sought}
 use Rattle.listing.proofs.Ways.{way-route, paths-on}
 use Rattle.listing.proofs.Walks.{remaining-on, start-going, going-on, going-room, first-way, first-way-short, walked-length, arrives}

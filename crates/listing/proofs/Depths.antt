@@ -16,8 +16,8 @@ use Rattle.layout.specs.declared.Header.{Header}
 use Rattle.records.specs.Accepted.{Accepted}
 use Rattle.records.proofs.FlowLaws.{flow-ok}
 use Rattle.listing.specs.Paths.{firstStepOf, stepsOf, firstRouteOf, routesOf, ends, target, RouteOf, inTurn}
-use Rattle.listing.specs.Walkers.{pathsOn, pathsAfter, Way}
-use Rattle.listing.specs.Depth.{greatest, depth, maxFrom, routeDepth, stepDepth, Shallow}
+use Rattle.listing.specs.Inner.{pathsOn, pathsAfter, Way, maxFrom, routeDepth, stepDepth, Shallow}
+use Rattle.listing.specs.Depth.{greatest, depth}
 use Rattle.listing.proofs.Ways.{onward-ends, onward-leads, step-ends, way-later, step-paths, paths-on}
 use Rattle.listing.proofs.AllPaths.{sound, short, some-onward}
 

@@ -13,9 +13,10 @@ use borrow.Author.Tests.{eq-eqb, ne-eqb}
 use Rattle.answer.specs.declared.Refusal.the-variants.{LastPath}
 use Rattle.answer.specs.declared.Walk.the-variants.{Refused}
 use Rattle.layout.specs.declared.Header.{Header}
-use Rattle.listing.specs.Paths.{Before, here, later, paths, path, PathList}
-use Rattle.listing.specs.Calls.{Lent, begins, Final, Then, headOf, following, walkOf, laid, firstWalk, firstLaid, answerOf, bufferOf, nextWalk, nextLaid}
-use Rattle.listing.specs.Lists.{Call, First, Next, State, called, calledOn, nexts, count, Listed, readOff}
+use Rattle.listing.specs.Paths.{Before, here, later, paths, path}
+use Rattle.listing.specs.Inner.{PathList, Lent, called, calledOn, Listed, readOff}
+use Rattle.listing.specs.Calls.{begins, Final, Then, headOf, following, walkOf, laid, firstWalk, firstLaid, answerOf, bufferOf, nextWalk, nextLaid}
+use Rattle.listing.specs.Lists.{Call, First, Next, State, nexts, count}
 use Rattle.listing.proofs.Follow.{follow-here, follow-later}
 use Rattle.listing.proofs.Buffers.{laid-same, length-laid}
 use Rattle.listing.proofs.Lists.{Ordered, none, more, mem-at}

@@ -7,7 +7,7 @@ use Prim.Native.Nat.{ℕ, zero, suc, _+_, _≤_, _<_}
 use native.Mathlib.Omega.{arith}
 use native.Mathlib.Decide.{ℕ-discrete}
 use lib.ListN.{length, getD}
-use Rattle.listing.specs.Paths.{Before, here, later, inTurn, At}
+use Rattle.listing.specs.Paths.{Before, here, later, inTurn, Among}
 
 -- ---- members
 
@@ -99,7 +99,7 @@ ordered-at (more {ps = ps} z o) (suc j) zero l m = absurd (omega arith)
 ordered-at (more {ps = ps} z o) (suc j) (suc k) l m = ordered-at o j k (omega arith) (omega arith)
 
 -- a member has a number
-pub number-of : (ps : List (List ℕ)) (p : List ℕ) → List·Memᴰ p ps → At ps p
+pub number-of : (ps : List (List ℕ)) (p : List ℕ) → List·Memᴰ p ps → Among ps p
 number-of [] p m = absurd (List·Memᴰ·not-nil m)
 number-of (q ∷ ps) p (List·Memᴰ·head e) = record { number = 0; below = omega arith; is = sym e }
 number-of (q ∷ ps) p (List·Memᴰ·tail m) = let z = number-of ps p m in record { number = suc (z .number); below = omega (arith, z .below); is = z .is }

@@ -10,7 +10,7 @@ use lib.IntN.{ℤ}
 use lib.ListN.{length, getD}
 use Rattle.layout.specs.declared.Header.{Header}
 use Rattle.records.specs.Accepted.{Accepted}
-use Rattle.listing.specs.Paths.{PathOf, Before, here, later, At, WholeList, paths, path}
+use Rattle.listing.specs.Paths.{PathOf, Before, here, later, Among, WholeList, paths, path}
 use Rattle.listing.proofs.AllPaths.{before-self, path-list}
 
 -- neither of two comes before the other and after it
@@ -27,20 +27,20 @@ InOrder ps = (j k : ℕ) → j < k → k < length ps → Before (getD ps j []) (
 
 -- whatever is in ps is in qs
 abbrev Within : List (List ℕ) → List (List ℕ) → Type 0
-Within ps qs = (p : List ℕ) → At ps p → At qs p
+Within ps qs = (p : List ℕ) → Among ps p → Among qs p
 
 module _ (p : List ℕ) (ps : List (List ℕ)) where
-  head-at : At (p ∷ ps) p
+  head-at : Among (p ∷ ps) p
   head-at = record { number = 0; below = omega arith; is = refl }
 
-  tail-at : {q : List ℕ} → At ps q → At (p ∷ ps) q
+  tail-at : {q : List ℕ} → Among ps q → Among (p ∷ ps) q
   tail-at a = record { number = suc (a .number); below = omega (arith, a .below); is = a .is }
 
   -- what is in the list is its head, or in the tail
-  at-cases : {q : List ℕ} → At (p ∷ ps) q → (p ≡ q) ⊎ At ps q
+  at-cases : {q : List ℕ} → Among (p ∷ ps) q → (p ≡ q) ⊎ Among ps q
   at-cases {q} a = go (a .number) (a .below) (a .is)
     where
-      go : (n : ℕ) → n < suc (length ps) → getD (p ∷ ps) n [] ≡ q → (p ≡ q) ⊎ At ps q
+      go : (n : ℕ) → n < suc (length ps) → getD (p ∷ ps) n [] ≡ q → (p ≡ q) ⊎ Among ps q
       go zero l e = inl e
       go (suc n) l e = inr (record { number = n; below = omega arith; is = e })
 
@@ -49,7 +49,7 @@ module _ (p : List ℕ) (ps : List (List ℕ)) where
     tail-order j k l m = o (suc j) (suc k) (omega arith) (omega arith)
 
     -- the head comes before what is in the tail
-    head-before : {q : List ℕ} → At ps q → Before p q
+    head-before : {q : List ℕ} → Among ps q → Before p q
     head-before a = subst (Before p) (a .is) (o 0 (suc (a .number)) (omega arith) (omega (arith, a .below)))
 
 same-head : (p q : List ℕ) (ps qs : List (List ℕ)) → InOrder (p ∷ ps) → InOrder (q ∷ qs) → Within (p ∷ ps) (q ∷ qs) → Within (q ∷ qs) (p ∷ ps) → p ≡ q

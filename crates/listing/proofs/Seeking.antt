@@ -17,7 +17,8 @@ use Rattle.listing.specs.declared.Walker.{Walker}
 use Rattle.listing.specs.declared.Found.{Found}
 use Rattle.listing.specs.declared.Found.the-variants.{Nowhere, Last, Turn}
 use Rattle.listing.specs.Paths.{firstRouteOf, routesOf, routesEndOf, RouteOf, inTurn}
-use Rattle.listing.specs.Walkers.{taken, pathsAfter, remaining, Going}
+use Rattle.listing.specs.Walkers.{taken}
+use Rattle.listing.specs.Inner.{pathsAfter, remaining, Going}
 use Rattle.listing.specs.Calls.{begins, Following, Absent, Final, headOf, following}
 use Rattle.listing.specs.Seeks.{routeAt, turned, turning, CanTurn}
 use Rattle.listing.proofs.Ways.{way-ends, step-paths}

@@ -13,9 +13,10 @@ use lib.Seq.{append-snoc}
 use Rattle.tables.proofs.Bools.{true-false}
 use Rattle.layout.specs.declared.Header.{Header}
 use Rattle.listing.specs.declared.Walker.{Walker}
-use Rattle.listing.specs.Paths.{stepsOf, target, RouteOf, PathFrom, last, next, PathOf, paths, At}
-use Rattle.listing.specs.Walkers.{started, taken, walked, arrived, Way, Going}
-use Rattle.listing.specs.Calls.{Lent, walkOf}
+use Rattle.listing.specs.Paths.{stepsOf, target, RouteOf, PathFrom, last, next, PathOf, paths, Among}
+use Rattle.listing.specs.Walkers.{started, taken, arrived}
+use Rattle.listing.specs.Inner.{walked, Way, Going, Lent}
+use Rattle.listing.specs.Calls.{walkOf}
 use Rattle.listing.proofs.Ways.{kind-ends, kind-leads}
 use Rattle.listing.proofs.AllPaths.{paths-short, path-number}
 use Rattle.listing.proofs.Walks.{start-going, going-on, arrives}
@@ -56,7 +57,7 @@ module _ {s : List ℤ} {h : Header} {f : ℕ} {b : List ℕ} (u : Lent s h f b)
     trail-is-path = subst (PathOf s h f) (append-nil p) (trail-path t [] (inl (e, refl)))
 
     -- so it is one of the listed paths
-    pub trail-listed : At (paths s h f) p
+    pub trail-listed : Among (paths s h f) p
     trail-listed = path-number s h (u .sheet) f (u .flow) p trail-is-path
 
     -- of no more routes than the flow has steps

@@ -15,8 +15,9 @@ use Rattle.tables.proofs.Bools.{bool-cases}
 use Rattle.layout.specs.declared.Header.{Header}
 use Rattle.listing.specs.declared.Walker.{Walker}
 use Rattle.listing.specs.Paths.{firstRouteOf, routesOf, target, RouteOf, lastOf, terminal, onward, inTurn}
-use Rattle.listing.specs.Walkers.{started, taken, walked, arrived, pathsOn, pathsAfter, remaining, firstWay, Way, Going}
-use Rattle.listing.specs.Calls.{Lent, walkOf}
+use Rattle.listing.specs.Walkers.{started, taken, arrived}
+use Rattle.listing.specs.Inner.{walked, pathsOn, pathsAfter, remaining, firstWay, Way, Going, Lent}
+use Rattle.listing.specs.Calls.{walkOf}
 use Rattle.listing.proofs.Ways.{way-start, way-step, way-some, way-first, way-route, way-on, step-paths}
 use Rattle.listing.proofs.Lists.{mem-at}
 use Rattle.listing.proofs.AllPaths.{sound, short, some-on, some-onward}

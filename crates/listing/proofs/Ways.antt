@@ -15,7 +15,7 @@ use Rattle.records.specs.Accepted.{Accepted}
 use Rattle.records.specs.Flows.{stepsEnd}
 use Rattle.records.proofs.FlowLaws.{flow-ok, step-ok, RouteKind, leads, ends as to-end, route-is}
 use Rattle.listing.specs.Paths.{firstRouteOf, routesOf, routesEndOf, ends, target, RouteOf, onward, inTurn, pathsFrom, paths}
-use Rattle.listing.specs.Walkers.{pathsOn, pathsAfter, Way}
+use Rattle.listing.specs.Inner.{pathsOn, pathsAfter, Way}
 
 -- lists of paths that agree on what can follow each route are equal
 pub turn-same : (f g : ℕ → List (List ℕ)) (r n : ℕ) → ((x : ℕ) → r ≤ x → x < r + n → f x ≡ g x) → inTurn f r n ≡ inTurn g r n

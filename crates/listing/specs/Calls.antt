@@ -2,7 +2,7 @@
 -- Assumes nothing.
 use mathlib.Core.Bool.{Bool, true, false, _&&_}
 use mathlib.Core.List.{List, [], _∷_, _++_}
-use Prim.Native.Nat.{ℕ, _-_, _≤_, _<_}
+use Prim.Native.Nat.{ℕ, _-_}
 use lib.IntN.{ℤ}
 use lib.ListN.{length, replicate}
 use lib.Dec.{eqb}
@@ -10,14 +10,7 @@ use Rattle.answer.specs.declared.Refusal.the-variants.{NotPath, LastPath}
 use Rattle.answer.specs.declared.Walk.{Walk}
 use Rattle.answer.specs.declared.Walk.the-variants.{Path as Walked, Refused}
 use Rattle.layout.specs.declared.Header.{Header}
-use Rattle.records.specs.Accepted.{Accepted}
-use Rattle.listing.specs.Paths.{stepsOf, terminal, paths, path}
-
--- what first and next ask for: an accepted sheet, a flow of it, and a buffer at least as long as the flow has steps
-pub record Lent (s : List ℤ) (h : Header) (f : ℕ) (b : List ℕ) : Type 0 where
-  pub sheet : Accepted s h
-  pub flow : f < h .flows
-  pub room : stepsOf s h f ≤ length b
+use Rattle.listing.specs.Paths.{terminal, paths, path}
 
 -- the buffer begins with the path
 unfoldable pub begins : List ℕ → List ℕ → Bool

@@ -4,3 +4,4 @@ pub mod Depth
 pub mod Calls
 pub mod Seeks
 pub mod Lists
+pub mod Inner

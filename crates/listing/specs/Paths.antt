@@ -64,7 +64,7 @@ pub data Before : List ℕ → List ℕ → Type 0 where
   later : {a : ℕ} {p q : List ℕ} → Before p q → Before (a ∷ p) (a ∷ q)
 
 -- p is one of the list, by its number
-pub record At (ps : List (List ℕ)) (p : List ℕ) : Type 0 where
+pub record Among (ps : List (List ℕ)) (p : List ℕ) : Type 0 where
   pub number : ℕ
   pub below : number < length ps
   pub is : getD ps number [] ≡ p
@@ -73,13 +73,8 @@ pub record At (ps : List (List ℕ)) (p : List ℕ) : Type 0 where
 -- comes before a later one, so that none is there twice. There is one such list alone (`only-list`)
 pub record WholeList (s : List ℤ) (h : Header) (f : ℕ) (ps : List (List ℕ)) : Type 0 where
   pub sound : (n : ℕ) → n < length ps → PathOf s h f (getD ps n [])
-  pub complete : (p : List ℕ) → PathOf s h f p → At ps p
+  pub complete : (p : List ℕ) → PathOf s h f p → Among ps p
   pub ordered : (j k : ℕ) → j < k → k < length ps → Before (getD ps j []) (getD ps k [])
-
--- and there is a path
-pub record PathList (s : List ℤ) (h : Header) (f : ℕ) (ps : List (List ℕ)) : Type 0 where
-  pub some : 1 ≤ length ps
-  pub whole : WholeList s h f ps
 
 -- what can follow route r: nothing where it ends at a terminal, else the paths from the step that it names, which `from` gives
 unfoldable pub onward : List ℤ → Header → (ℕ → List (List ℕ)) → ℕ → List (List ℕ)

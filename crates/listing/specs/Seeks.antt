@@ -11,7 +11,8 @@ use Rattle.listing.specs.declared.Walker.{Walker}
 use Rattle.listing.specs.declared.Found.{Found}
 use Rattle.listing.specs.declared.Found.the-variants.{Nowhere, Last, Turn}
 use Rattle.listing.specs.Paths.{RouteOf, paths}
-use Rattle.listing.specs.Walkers.{taken, firstWay, Going}
+use Rattle.listing.specs.Walkers.{taken}
+use Rattle.listing.specs.Inner.{firstWay, Going}
 use Rattle.listing.specs.Calls.{Following, Absent, Final, Then, following}
 
 -- the route that the buffer has where the walker stands, and the one after it

@@ -6,8 +6,8 @@ use Prim.Native.Nat.{ℕ, zero, suc}
 use Rattle.words.specs.declared.Words.{Words}
 use Rattle.item.specs.declared.Item.{Item}
 use Rattle.node.specs.declared.Given.{Given}
-use Rattle.node.specs.Rows.{rowOf}
-use Rattle.node.specs.Judged.{fits, judged}
+use Rattle.node.specs.Rows.{rowOf, fits}
+use Rattle.node.specs.Judged.{judged}
 
 pub cites-none : (k : ℕ) → (k ≡ 8 → ⊥) → (w : Words) → rowOf k .cites w ≡ []
 unfolding rowOf

@@ -1,33 +1,27 @@
--- A node from its row: good or not, its type and its range.
+-- What the functions on a node answer and ask. The definitions of the other files do not rest on these.
 -- Assumes nothing.
 use Prim.Native.Nat.{ℕ, zero, suc}
-use mathlib.Core.Bool.{Bool, true, false, cond, _&&_}
+use mathlib.Core.Bool.{Bool, true, false, cond}
 use mathlib.Core.List.{List, [], _∷_}
-use Rattle.words.specs.declared.Words.{Words}
-use Rattle.words.specs.Record.{numbersOf, unused}
 use Rattle.item.specs.declared.Item.{Item}
-use Rattle.item.specs.Items.{none, small, Small}
+use Rattle.item.specs.Items.{none, Small}
 use Rattle.node.specs.declared.Given.{Given}
-use Rattle.node.specs.declared.Found.{Found}
+use Rattle.node.specs.declared.Judgement.{Judgement}
 use Rattle.node.specs.declared.Kids.{Kids}
-use Rattle.node.specs.Rows.{Row, rowOf}
+use Rattle.node.specs.Rows.{Row, fits}
 
--- the node is as its row wants it: unused words are 0, its row takes what it is given, and its range stays within −M..M
-unfoldable pub fits : Row → Given → Bool
-fits r g = unused (r .used) (numbersOf (g .words)) && r .takes g && small (r .gives g)
-
-abbrev pub bad : Found
+abbrev pub bad : Judgement
 bad = record { good = false; item = none }
 
 -- the item where the node is good
-unfoldable pub keep : Bool → Item → Found
+unfoldable pub keep : Bool → Item → Judgement
 keep t x = cond t (record { good = true; item = x }) bad
 
-unfoldable pub judged : Row → Given → Found
+unfoldable pub judged : Row → Given → Judgement
 judged r g = keep (fits r g) (r .gives g)
 
 -- what the arithmetic of a node asks: its children's ranges are in −M..M
-pub record Ready (g : Given) : Type 0 where
+pub record SmallKids (g : Given) : Type 0 where
   pub x : Small (g .x)
   pub y : Small (g .y)
 

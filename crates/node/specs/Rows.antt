@@ -9,9 +9,10 @@ use lib.Dec.{leb, ltb, eqb}
 use Rattle.signed.specs.Words.{eqZ, within, big, num}
 use Rattle.signed.specs.Compare.{holds}
 use Rattle.words.specs.declared.Words.{Words}
+use Rattle.words.specs.Record.{numbersOf, unused}
 use Rattle.item.specs.declared.Item.{Item}
 use Rattle.item.specs.Sorts.{isNumber}
-use Rattle.item.specs.Items.{span, none, sum, difference, multiple, compared, both, either, negation}
+use Rattle.item.specs.Items.{span, none, small, sum, difference, multiple, compared, both, either, negation}
 use Rattle.node.specs.declared.Given.{Given}
 
 -- what a node's value is worked out from: its words, the facts, the verdicts, and the values of its children, 0 where there is none
@@ -170,3 +171,7 @@ rows =
 
 unfoldable pub rowOf : ℕ → Row
 rowOf k = getD rows k unknown
+
+-- the node is as its row wants it: unused words are 0, its row takes what it is given, and its range stays within −M..M
+unfoldable pub fits : Row → Given → Bool
+fits r g = unused (r .used) (numbersOf (g .words)) && r .takes g && small (r .gives g)

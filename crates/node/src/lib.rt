@@ -36,7 +36,7 @@ pub struct Given {
 }
 
 // Whether a node is good, and if so its type and range.
-pub struct Found {
+pub struct Judgement {
     pub good: bool,
     pub item: Item,
 }
@@ -48,18 +48,18 @@ pub struct Kids {
     pub second: usize,
 }
 
-pub fn bad() -> Found
+pub fn bad() -> Judgement
     ensures { λ r. ⌜ r ≡ judged.bad ⌝ }
 {
     let item = span(0, 0, 0);
-    Found { good: false, item }
+    Judgement { good: false, item }
 }
 
-fn keep(good: bool, item: Item) -> Found
+fn keep(good: bool, item: Item) -> Judgement
     ensures { λ r. ⌜ r ≡ judged.keep good item ⌝ }
 {
     if good {
-        Found { good: true, item }
+        Judgement { good: true, item }
     } else {
         bad()
     }
@@ -84,14 +84,14 @@ fn comparable(op: usize, x: Item, y: Item) -> bool
 }
 
 // The node of item x, where its words past `used` are 0, its kind takes what it is given, and x lies in −M..M.
-fn checked(used: usize, g: Given, takes: bool, x: Item) -> Found
+fn checked(used: usize, g: Given, takes: bool, x: Item) -> Judgement
     ensures { λ r. ⌜ r ≡ judged.keep (unusedWords used (numbersOf (g .words)) && takes && smallItem x) x ⌝ }
 {
     let w = g.words;
     keep(unused(used, numbers_of(w)) & takes & small(x), x)
 }
 
-fn literal(g: Given, used: usize, low: i64, high: i64, t: usize, m: usize) -> Found
+fn literal(g: Given, used: usize, low: i64, high: i64, t: usize, m: usize) -> Judgement
     requires { ⌜ (t ≤ 2) × (m ≤ 127) ⌝ }
     ensures { λ r. ⌜ r ≡ judged.judged (rows.literal used low high t m) g ⌝ }
 {
@@ -104,7 +104,7 @@ fn literal(g: Given, used: usize, low: i64, high: i64, t: usize, m: usize) -> Fo
     }
 }
 
-fn fact_named(g: Given) -> Found
+fn fact_named(g: Given) -> Judgement
     ensures { λ r. ⌜ r ≡ judged.judged rows.factNamed g ⌝ }
 {
     let w = g.words;
@@ -112,8 +112,8 @@ fn fact_named(g: Given) -> Found
     checked(2, g, num(w.w1) < g.facts, f)
 }
 
-fn sums(g: Given) -> Found
-    requires { ⌜ judged.Ready g ⌝ }
+fn sums(g: Given) -> Judgement
+    requires { ⌜ judged.SmallKids g ⌝ }
     ensures { λ r. ⌜ r ≡ judged.judged rows.sums g ⌝ }
 {
     let x = g.x;
@@ -121,8 +121,8 @@ fn sums(g: Given) -> Found
     checked(3, g, numbers(x, y), sum(x, y))
 }
 
-fn differences(g: Given) -> Found
-    requires { ⌜ judged.Ready g ⌝ }
+fn differences(g: Given) -> Judgement
+    requires { ⌜ judged.SmallKids g ⌝ }
     ensures { λ r. ⌜ r ≡ judged.judged rows.differences g ⌝ }
 {
     let x = g.x;
@@ -130,8 +130,8 @@ fn differences(g: Given) -> Found
     checked(3, g, numbers(x, y), difference(x, y))
 }
 
-fn product(g: Given) -> Found
-    requires { ⌜ judged.Ready g ⌝ }
+fn product(g: Given) -> Judgement
+    requires { ⌜ judged.SmallKids g ⌝ }
     ensures { λ r. ⌜ r ≡ judged.judged rows.product g ⌝ }
 {
     let w = g.words;
@@ -143,8 +143,8 @@ fn product(g: Given) -> Found
     }
 }
 
-fn comparison(g: Given) -> Found
-    requires { ⌜ judged.Ready g ⌝ }
+fn comparison(g: Given) -> Judgement
+    requires { ⌜ judged.SmallKids g ⌝ }
     ensures { λ r. ⌜ r ≡ judged.judged rows.comparison g ⌝ }
 {
     let w = g.words;
@@ -154,15 +154,15 @@ fn comparison(g: Given) -> Found
     checked(4, g, comparable(op, x, y), compared(op, x, y))
 }
 
-fn present(g: Given) -> Found
+fn present(g: Given) -> Judgement
     ensures { λ r. ⌜ r ≡ judged.judged rows.present g ⌝ }
 {
     let w = g.words;
     checked(2, g, num(w.w1) < g.rules, span(0, 0, 1))
 }
 
-fn conjunction(g: Given) -> Found
-    requires { ⌜ judged.Ready g ⌝ }
+fn conjunction(g: Given) -> Judgement
+    requires { ⌜ judged.SmallKids g ⌝ }
     ensures { λ r. ⌜ r ≡ judged.judged rows.conjunction g ⌝ }
 {
     let x = g.x;
@@ -170,8 +170,8 @@ fn conjunction(g: Given) -> Found
     checked(3, g, bools(x, y), both(x, y))
 }
 
-fn disjunction(g: Given) -> Found
-    requires { ⌜ judged.Ready g ⌝ }
+fn disjunction(g: Given) -> Judgement
+    requires { ⌜ judged.SmallKids g ⌝ }
     ensures { λ r. ⌜ r ≡ judged.judged rows.disjunction g ⌝ }
 {
     let x = g.x;
@@ -179,8 +179,8 @@ fn disjunction(g: Given) -> Found
     checked(3, g, bools(x, y), either(x, y))
 }
 
-fn negated(g: Given) -> Found
-    requires { ⌜ judged.Ready g ⌝ }
+fn negated(g: Given) -> Judgement
+    requires { ⌜ judged.SmallKids g ⌝ }
     ensures { λ r. ⌜ r ≡ judged.judged rows.negated g ⌝ }
 {
     let x = g.x;
@@ -188,8 +188,8 @@ fn negated(g: Given) -> Found
 }
 
 // A node of kind number k.
-pub fn judge(k: usize, g: Given) -> Found
-    requires { ⌜ judged.Ready g ⌝ }
+pub fn judge(k: usize, g: Given) -> Judgement
+    requires { ⌜ judged.SmallKids g ⌝ }
     ensures { λ r. ⌜ r ≡ judged.judged (rows.rowOf k) g ⌝ }
 {
     match k {

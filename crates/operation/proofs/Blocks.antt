@@ -12,7 +12,7 @@ use native.Mathlib.Omega.{arith}
 use native.Mathlib.Decide.{decLt}
 use borrow.Author.Tests.{le-leb}
 use Rattle.tables.specs.Scan.{anyBelow}
-use Rattle.tables.specs.Table.{marked}
+use Rattle.tables.specs.Inner.{marked}
 use Rattle.tables.proofs.Bools.{tests, same-tests, or-true-right}
 use Rattle.tables.proofs.Scans.{any-at, any-of, any-more, none-any}
 use Rattle.tables.proofs.Entries.{marked-flags, or-false}
@@ -23,7 +23,7 @@ use Rattle.records.proofs.OperationLaws.{ascends, inside}
 use Rattle.operation.specs.Outcomes.{ofOutcome, starts, moves, matched}
 use Rattle.operation.specs.Ready.{Ready}
 use Rattle.operation.specs.declared.Effects.{Effects}
-use Rattle.operation.specs.Inner.{At, Clear, Collected, effectsOf}
+use Rattle.operation.specs.Inner.{OutcomeAt, Clear, Collected, effectsOf}
 use Rattle.operation.proofs.Targets.{end-is}
 
 -- a flag that is joined with a test is set where the test holds
@@ -75,9 +75,9 @@ module _ (s : List ℤ) (h : Header) (states : List ℤ) (at j end : ℕ) where
       go d a (no x) b = let z : d ≡ e = omega arith in rw z out
 
 -- the effects of outcome j end at `stop`
-module _ {s : List ℤ} {h : Header} {states : List ℤ} {o : ℕ} (w : Ready s h states o) (j at stop : ℕ) (flags : List Bool) (k : At s h o j at)
+module _ {s : List ℤ} {h : Header} {states : List ℤ} {o : ℕ} (w : Ready s h states o) (j at stop : ℕ) (flags : List Bool) (k : OutcomeAt s h o j at)
     (r : Collecting s h states at j (effectsEnd s h o) stop flags) (last : stop < effectsEnd s h o → outcome s h stop ≡ j → ⊥) where
-  next : At s h o (j + 1) stop
+  next : OutcomeAt s h o (j + 1) stop
   next =
       record {
         low = omega (arith, k .low, r .order);
@@ -143,7 +143,7 @@ module _ {s : List ℤ} {h : Header} {states : List ℤ} {o : ℕ} (w : Ready s 
       }
 
 -- the same, with the end that the code has read
-pub collected-by : {s : List ℤ} {h : Header} {states : List ℤ} {o : ℕ} → Ready s h states o → (x : Effects) → x ≡ effectsOf s h o → (j at stop : ℕ) (flags : List Bool) → At s h o j at
+pub collected-by : {s : List ℤ} {h : Header} {states : List ℤ} {o : ℕ} → Ready s h states o → (x : Effects) → x ≡ effectsOf s h o → (j at stop : ℕ) (flags : List Bool) → OutcomeAt s h o j at
     → Collecting s h states at j (x .end) stop flags → (stop < x .end → outcome s h stop ≡ j → ⊥) → Collected s h states o j at stop flags
 collected-by {s} {h} {states} {o} w x e j at stop flags k r last =
     let z = end-is s h o x e in collected w j at stop flags k (rw z at r) (rw z at last)

@@ -20,13 +20,13 @@ use Rattle.operation.specs.declared.Choice.the-variants.{Outcome, Nothin
 use Rattle.operation.specs.declared.Effects.{Effects}
 use Rattle.operation.specs.Outcomes.{ofOutcome, matched, unblocked, applicable, firstApplicable, chosen}
 use Rattle.operation.specs.Ready.{Ready}
-use Rattle.operation.specs.Inner.{At, Collected, Read, effectsOf}
+use Rattle.operation.specs.Inner.{OutcomeAt, Collected, Read, effectsOf}
 use Rattle.operation.proofs.Targets.{first-is, outcomes-is, has-flag}
 
 -- the outcomes before j are not applicable, and j starts at effect `at`
 pub record Passed (s : List ℤ) (h : Header) (states : List ℤ) (o j at : ℕ) : Type 0 where
   pub here : j ≤ operation s h o .w4
-  pub start : At s h o j at
+  pub start : OutcomeAt s h o j at
   pub none : (i : ℕ) → 0 ≤ i → i < j → not (applicable s h states o i) ≡ true
 
 -- the effects of an outcome from `at` up to e name entities that are matched; `at` and j are what they were

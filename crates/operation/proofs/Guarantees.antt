@@ -21,9 +21,10 @@ use Rattle.records.specs.Operations.{outcome}
 use Rattle.records.proofs.OperationLaws.{Of, Declared, inside, effect-ok, entity-ok}
 use Rattle.operation.specs.declared.Choice.{Choice}
 use Rattle.operation.specs.declared.Choice.the-variants.{Outcome, Nothing}
-use Rattle.operation.specs.States.{present, StatesIn}
+use Rattle.operation.specs.States.{present}
+use Rattle.operation.specs.Inner.{StatesIn, after, performed}
 use Rattle.operation.specs.Outcomes.{ofOutcome, moves, matched, unblocked, applicable, firstApplicable, chosen}
-use Rattle.operation.specs.Changes.{newState, applied, after, performed}
+use Rattle.operation.specs.Changes.{newState, applied}
 use Rattle.operation.specs.Ready.{Ready}
 use Rattle.operation.proofs.Movers.{Moves, moves-true, true-moves, stays, goes, length-applied, applied-at}
 

@@ -12,10 +12,11 @@ use borrow.Author.Tests.{lt-ltb, le-ltb, ltb-true}
 use Rattle.tables.proofs.Scanned.{stopped, ended, step, first-fail, first-scan}
 use Rattle.answer.specs.declared.Refusal.the-variants.{State}
 use Rattle.answer.specs.declared.Status.the-variants.{Done, Refused}
-use Rattle.answer.specs.Answers.{SmallStatus}
+use Rattle.answer.specs.Inner.{SmallStatus}
 use Rattle.layout.specs.declared.Header.{Header}
 use Rattle.records.specs.Entities.{states as stateCount}
-use Rattle.operation.specs.States.{present, stateIn, firstStray, statesFault, StatesIn}
+use Rattle.operation.specs.States.{present, stateIn, firstStray, statesFault}
+use Rattle.operation.specs.Inner.{StatesIn}
 
 -- the states of the first n entities are among them
 pub record Judged (s : List ℤ) (h : Header) (states : List ℤ) (n : ℕ) : Type 0 where

@@ -9,7 +9,7 @@ use lib.ListN.{length, getD, set, replicate, length-set}
 use lib.Seq.{getD-set-same, getD-set-other, ext-getD}
 use native.Mathlib.Omega.{arith}
 use native.Mathlib.Decide.{decLt, ℕ-discrete}
-use Rattle.tables.specs.Table.{marked}
+use Rattle.tables.specs.Inner.{marked}
 use Rattle.tables.proofs.Bools.{tests, true-false, not-flip}
 use Rattle.layout.specs.declared.Header.{Header}
 use Rattle.layout.specs.Tables.{effect}

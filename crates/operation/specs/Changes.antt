@@ -10,9 +10,7 @@ use Rattle.tables.specs.Scan.{firstFail}
 use Rattle.tables.specs.Table.{grown}
 use Rattle.layout.specs.declared.Header.{Header}
 use Rattle.layout.specs.Tables.{effect, toOf}
-use Rattle.operation.specs.declared.Choice.{Choice}
-use Rattle.operation.specs.declared.Choice.the-variants.{Outcome, Nothing}
-use Rattle.operation.specs.Outcomes.{moves, chosen}
+use Rattle.operation.specs.Outcomes.{moves}
 
 -- the effect of outcome j of operation o that starts from the present state of entity n, or the number of effects where there is none
 unfoldable pub mover : List ℤ → Header → List ℤ → ℕ → ℕ → ℕ → ℕ
@@ -26,12 +24,3 @@ newState s h states o j n =
 -- "exactly those effects are applied, all at once": the new state of each entity, all from the present ones
 unfoldable pub applied : List ℤ → Header → List ℤ → ℕ → ℕ → List ℤ
 applied s h states o j = grown (λ before n. newState s h states o j n) (pos 0) (h .entities)
-
--- the states after a choice
-unfoldable pub after : List ℤ → Header → List ℤ → ℕ → Choice → List ℤ
-after s h states o (Outcome j) = applied s h states o j
-after s h states o Nothing = states
-
--- the states after operation o
-unfoldable pub performed : List ℤ → Header → List ℤ → ℕ → List ℤ
-performed s h states o = after s h states o (chosen s h states o)

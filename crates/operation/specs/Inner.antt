@@ -6,14 +6,19 @@ use mathlib.Core.List.{List}
 use Prim.Native.Nat.{ℕ, _+_, _≤_, _<_}
 use lib.IntN.{ℤ, pos}
 use lib.ListN.{length, getD, set}
-use Rattle.tables.specs.Table.{marked}
+use Rattle.tables.specs.Inner.{marked}
 use Rattle.words.specs.declared.Record.{Record}
 use Rattle.layout.specs.declared.Header.{Header}
 use Rattle.layout.specs.Tables.{operation, effect, entityOf, toOf, effectStartOf, outcomesOf}
 use Rattle.records.specs.Accepted.{Accepted}
 use Rattle.records.specs.Operations.{effectsEnd, outcome}
 use Rattle.operation.specs.declared.Effects.{Effects}
-use Rattle.operation.specs.Outcomes.{ofOutcome, starts, matched}
+use Rattle.operation.specs.Outcomes.{ofOutcome, starts, matched, chosen}
+use Rattle.operation.specs.declared.Choice.{Choice}
+use Rattle.operation.specs.declared.Choice.the-variants.{Outcome, Nothing}
+use Rattle.operation.specs.Changes.{applied}
+use Rattle.records.specs.Entities.{states as stateCount}
+use Rattle.operation.specs.States.{present}
 
 -- an operation's effects
 unfoldable pub effectsOf : List ℤ → Header → ℕ → Effects
@@ -26,7 +31,7 @@ pub record Read (s : List ℤ) (h : Header) (states : List ℤ) (e : ℕ) : Type
   pub exists : e < h .effects
 
 -- outcome j of operation o starts at effect `at`: the operation's effects before it are of earlier outcomes, the others of j and later ones
-pub record At (s : List ℤ) (h : Header) (o j at : ℕ) : Type 0 where
+pub record OutcomeAt (s : List ℤ) (h : Header) (o j at : ℕ) : Type 0 where
   pub low : effectStartOf (operation s h o) ≤ at
   pub high : at ≤ effectsEnd s h o
   pub before : (e : ℕ) → effectStartOf (operation s h o) ≤ e → e < at → outcome s h e < j
@@ -39,7 +44,7 @@ pub record Clear (flags : List Bool) : Type 0 where
 
 -- the effects of outcome j are those from `at` up to `stop`, where the next outcome starts; the flags say which entities are matched
 pub record Collected (s : List ℤ) (h : Header) (states : List ℤ) (o j at stop : ℕ) (flags : List Bool) : Type 0 where
-  pub next : At s h o (j + 1) stop
+  pub next : OutcomeAt s h o (j + 1) stop
   pub order : at ≤ stop
   pub inside : (e : ℕ) → at ≤ e → e < stop → ofOutcome s h o j e ≡ true
   pub only : (e : ℕ) → ofOutcome s h o j e ≡ true → (at ≤ e) × (e < stop)
@@ -54,3 +59,17 @@ taken states moved r = not (getD moved (entityOf r) false) && starts states r
 pub record Shifted (s : List ℤ) (h : Header) (e : ℕ) (states : List ℤ) (moved : List Bool) (states′ : List ℤ) (moved′ : List Bool) : Type 0 where
   pub state : states′ ≡ cond (taken states moved (effect s h e)) (set states (entityOf (effect s h e)) (pos (toOf (effect s h e)))) states
   pub flag : moved′ ≡ marked (taken states moved (effect s h e)) (entityOf (effect s h e)) moved
+
+-- the states after a choice
+unfoldable pub after : List ℤ → Header → List ℤ → ℕ → Choice → List ℤ
+after s h states o (Outcome j) = applied s h states o j
+after s h states o Nothing = states
+
+-- the states after operation o
+unfoldable pub performed : List ℤ → Header → List ℤ → ℕ → List ℤ
+performed s h states o = after s h states o (chosen s h states o)
+
+-- there is a state for each entity, and each is among its entity's states
+pub record StatesIn (s : List ℤ) (h : Header) (states : List ℤ) : Type 0 where
+  pub long : length states ≡ h .entities
+  pub each : (n : ℕ) → n < h .entities → present states n < stateCount s h n

@@ -1,9 +1,8 @@
 -- The lent states, one for each entity, and refusal 8.
 -- Assumes nothing.
-use mathlib.Core.Path.{_≡_}
-use Prim.Native.Nat.{ℕ, _<_}
+use Prim.Native.Nat.{ℕ}
 use lib.IntN.{ℤ, pos}
-use lib.ListN.{length, getD}
+use lib.ListN.{getD}
 use mathlib.Core.Bool.{Bool, cond}
 use mathlib.Core.List.{List}
 use lib.Dec.{ltb}
@@ -30,8 +29,3 @@ firstStray s h states = firstFail (stateIn s h states) 0 (h .entities)
 -- refusal 8: "a lent state not among its entity's states", the place being the first such entity
 unfoldable pub statesFault : List ℤ → Header → List ℤ → Status
 statesFault s h states = cond (ltb (firstStray s h states) (h .entities)) (Refused (State (firstStray s h states))) Done
-
--- there is a state for each entity, and each is among its entity's states
-pub record StatesIn (s : List ℤ) (h : Header) (states : List ℤ) : Type 0 where
-  pub long : length states ≡ h .entities
-  pub each : (n : ℕ) → n < h .entities → present states n < stateCount s h n

@@ -10,9 +10,9 @@ ghost use Rattle.records.specs.Accepted.{Accepted};
 ghost use Rattle.operation.specs.Mask.{inMask, allowed};
 ghost use Rattle.operation.specs.States.{statesFault};
 ghost use Rattle.operation.specs.Outcomes.{starts, chosen};
-ghost use Rattle.operation.specs.Changes.{applied, performed};
+ghost use Rattle.operation.specs.Changes.{applied};
+ghost use Rattle.operation.specs.Inner.{performed, effectsOf, Read, OutcomeAt, Clear, Collected, Shifted};
 ghost use Rattle.operation.specs.Ready.{Ready};
-ghost use Rattle.operation.specs.Inner.{effectsOf, Read, At, Clear, Collected, Shifted};
 use answer::Refusal;
 use answer::Status;
 use layout::Header;
@@ -124,7 +124,7 @@ fn collect(
     j: usize,
 ) -> usize
     requires { ⌜ Ready (now s) h (now states) (o .0) ⌝ }
-    requires { ⌜ At (now s) h (o .0) j at × Clear (now found) ⌝ }
+    requires { ⌜ OutcomeAt (now s) h (o .0) j at × Clear (now found) ⌝ }
     ensures { λ r. ⌜ Collected (now (s .entry)) h (now (states .entry)) (o .0) j at r (now (found .exit)) ⌝ }
 {
     let effects = effects_of(s, h, o);

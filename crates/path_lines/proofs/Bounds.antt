@@ -13,7 +13,7 @@ use Rattle.records.specs.Accepted.{Accepted}
 use Rattle.decimal.specs.Decimal.{digits, sign, decimal}
 use Rattle.decimal.proofs.Writing.{width-in}
 use Rattle.listing.specs.Paths.{PathFrom, last, next, PathOf, ends, target, terminal, stepsOf, path}
-use Rattle.listing.specs.Walkers.{Way}
+use Rattle.listing.specs.Inner.{Way}
 use Rattle.listing.specs.Lists.{count}
 use Rattle.listing.proofs.Ways.{way-start, way-on, way-route}
 use Rattle.listing.proofs.AllPaths.{path-sound, path-small}

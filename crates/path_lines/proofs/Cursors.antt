@@ -18,7 +18,8 @@ use Rattle.answer.specs.declared.Walk.the-variants.{Path as Walked, Refused}
 use Rattle.layout.specs.declared.Header.{Header}
 use Rattle.records.proofs.FlowLaws.{flow-ok}
 use Rattle.listing.specs.Paths.{paths, path, terminal}
-use Rattle.listing.specs.Calls.{Lent, Following, following, walkOf, laid, firstWalk, firstLaid, answerOf, bufferOf, nextWalk, nextLaid}
+use Rattle.listing.specs.Calls.{Following, following, walkOf, laid, firstWalk, firstLaid, answerOf, bufferOf, nextWalk, nextLaid}
+use Rattle.listing.specs.Inner.{Lent}
 use Rattle.listing.specs.Lists.{count}
 use Rattle.listing.proofs.AllPaths.{paths-some}
 use Rattle.listing.proofs.Buffers.{laid-same, length-laid}

@@ -14,7 +14,7 @@ use Rattle.tables.proofs.Lists.{Before}
 use Rattle.records.specs.Accepted.{Accepted}
 use Rattle.records.specs.Nodes.{childrenOf}
 use Rattle.records.proofs.NodeLaws.{node-ok}
-use Rattle.predicate.specs.Values.{Evaluable}
+use Rattle.predicate.specs.Inner.{Evaluable}
 use Rattle.predicate.specs.Base.{childrenAt, BaseOf, NodeAt, EvaluableAt, RangeAt}
 
 pub node-at : {s : List ℤ} {h : Header} {n : ℕ} → Accepted s h → n < h .nodes → NodeAt s (firstNode h) n

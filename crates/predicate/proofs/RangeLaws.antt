@@ -11,7 +11,8 @@ use Rattle.tables.specs.Table.{grown, entry}
 use Rattle.tables.specs.Lists.{pick}
 use Rattle.tables.proofs.Lists.{Before}
 use Rattle.tables.proofs.Grown.{length-grown, grown-at}
-use Rattle.signed.specs.Compare.{Pair, canHold, canFail}
+use Rattle.signed.specs.Compare.{canHold, canFail}
+use Rattle.signed.specs.Inner.{Pair}
 use Rattle.signed.proofs.Parts.{Le}
 use Rattle.signed.proofs.Order.{le-refl}
 use Rattle.signed.proofs.Bounds.{true-in}
@@ -23,14 +24,14 @@ use Rattle.item.specs.declared.Item.{Item}
 use Rattle.item.specs.Items.{none, span, compared, Small}
 use Rattle.node.specs.declared.Given.{Given}
 use Rattle.node.specs.declared.Kids.{Kids}
-use Rattle.node.specs.Rows.{Row, comparison, rowOf}
-use Rattle.node.specs.Judged.{kids, fits}
+use Rattle.node.specs.Rows.{Row, comparison, rowOf, fits}
+use Rattle.node.specs.Judged.{kids}
 use Rattle.records.specs.Accepted.{Accepted}
 use Rattle.records.specs.Facts.{minOf}
 use Rattle.records.specs.Nodes.{nodeWords, nodeRow, childrenOf, namedFact, givenOf, itemOf}
 use Rattle.records.proofs.FactLaws.{fact-ok}
 use Rattle.records.proofs.NodeLaws.{node-ok}
-use Rattle.facts.specs.Assembled.{FactsIn}
+use Rattle.facts.specs.Inner.{FactsIn}
 use Rattle.predicate.specs.Verdicts.{verdictsOf}
 use Rattle.predicate.specs.Base.{rowAt, childrenAt, givenAt, RangeAt}
 use Rattle.predicate.proofs.BaseLaws.{ranged, none-named, one-named, two-named}
@@ -103,7 +104,7 @@ module _ {s : List ℤ} {h : Header} (a : Accepted s h) where
           words = nodeWords s h n;
           facts = h .facts;
           rules = h .rules;
-          fact = namedFact s h op;
+          fact = namedFact s (h .facts) op;
           x = pick (itemOf s h) none (r .children (nodeWords s h n)) 0;
           y = pick (itemOf s h) none (r .children (nodeWords s h n)) 1;
         }

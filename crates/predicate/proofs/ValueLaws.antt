@@ -30,8 +30,9 @@ use Rattle.records.specs.Facts.{minOf, maxOf, factItem}
 use Rattle.records.specs.Nodes.{nodeWords, nodeRow, childrenOf, namedFact, givenOf, itemOf}
 use Rattle.records.proofs.FactLaws.{fact-ok}
 use Rattle.records.proofs.NodeLaws.{node-ok}
-use Rattle.facts.specs.Assembled.{FactsIn}
-use Rattle.predicate.specs.Values.{seenOf, valueStep, valueOf, truth, Truths}
+use Rattle.facts.specs.Inner.{FactsIn}
+use Rattle.predicate.specs.Values.{seenOf, valueStep, valueOf, truth}
+use Rattle.predicate.specs.Inner.{Truths}
 use Rattle.predicate.specs.Base.{rowAt, childrenAt, seenAt, EvaluableAt}
 use Rattle.predicate.proofs.BaseLaws.{there, none-named, one-named, two-named}
 use Rattle.predicate.proofs.KindLaws.{decided}
@@ -78,7 +79,7 @@ module _ (s : List ℤ) (h : Header) (facts verdicts : List ℤ) where
           bool = λ e. let q = fact-ok s k (a .facts k l) .bounds .bool e in subst (λ (z : ℤ). In (pos 0) (getD facts k (pos 0)) z) (q .1) (subst (λ (z : ℤ). In z (getD facts k (pos 0)) (maxOf s k)) (q .0) (fact-in k l));
         }
 
-    named-of : (k : ℕ) → ltb k (h .facts) ≡ true → Of (namedFact s h k) (getD facts k (pos 0))
+    named-of : (k : ℕ) → ltb k (h .facts) ≡ true → Of (namedFact s (h .facts) k) (getD facts k (pos 0))
     named-of k e = rw e (fact-of k (ltb-true k (h .facts) e))
 
     known : (n : ℕ) → n < h .nodes → Before n (childrenOf s h n) → ((j : ℕ) → j < n → Of (itemOf s h j) (value j)) → Known (givenOf s h (itemOf s h) n) facts verdicts (pick value (pos 0) (childrenOf s h n) 0) (pick value (pos 0) (childrenOf s h n) 1)

@@ -27,8 +27,9 @@ use Rattle.records.specs.Nodes.{nodeWords, childrenOf}
 use Rattle.records.specs.Rules.{lower, citesLower}
 use Rattle.records.proofs.NodeLaws.{node-ok}
 use Rattle.records.proofs.RuleLaws.{rule-ok, cites-here, cites-below}
-use Rattle.facts.specs.Assembled.{FactsIn}
-use Rattle.predicate.specs.Values.{truth, valueOf, Truths, Evaluable}
+use Rattle.facts.specs.Inner.{FactsIn}
+use Rattle.predicate.specs.Values.{truth, valueOf}
+use Rattle.predicate.specs.Inner.{Truths, Evaluable}
 use Rattle.predicate.specs.Verdicts.{whenNode, verdictsTo, verdictsOf}
 use Rattle.predicate.proofs.KindLaws.{cited}
 use Rattle.predicate.proofs.ValueLaws.{value-is}

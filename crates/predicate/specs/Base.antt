@@ -3,20 +3,17 @@
 use mathlib.Core.Path.{_≡_}
 use Prim.Native.Nat.{ℕ, _<_}
 use lib.IntN.{ℤ}
-use lib.Dec.{ltb}
-use mathlib.Core.Bool.{cond}
 use mathlib.Core.List.{List}
 use Rattle.signed.specs.Words.{num}
 use Rattle.words.specs.declared.Words.{Words}
 use Rattle.words.specs.Record.{wordsAt}
 use Rattle.layout.specs.Header.{headerOf, firstNode}
 use Rattle.item.specs.declared.Item.{Item}
-use Rattle.item.specs.Items.{none}
 use Rattle.node.specs.declared.Given.{Given}
 use Rattle.node.specs.Rows.{Row, Seen, rowOf}
-use Rattle.records.specs.Facts.{factItem}
+use Rattle.records.specs.Nodes.{namedFact}
 use Rattle.records.specs.Accepted.{Accepted}
-use Rattle.predicate.specs.Values.{Evaluable}
+use Rattle.predicate.specs.Inner.{Evaluable}
 
 -- the row of the node in record k, its children, and what its value and its range are worked out from
 abbrev pub rowAt : List ℤ → ℕ → Row
@@ -31,12 +28,9 @@ seen w facts verdicts x y = record { words = w; facts = facts; verdicts = verdic
 abbrev pub seenAt : List ℤ → ℕ → List ℤ → List ℤ → ℤ → ℤ → Seen
 seenAt s k = seen (wordsAt s k)
 
-abbrev pub factAt : List ℤ → ℕ → ℕ → Item
-factAt s facts f = cond (ltb f facts) (factItem s f) none
-
 abbrev pub givenAt : List ℤ → ℕ → ℕ → ℕ → Item → Item → Given
 givenAt s facts rules k x y =
-    record { words = wordsAt s k; facts = facts; rules = rules; fact = factAt s facts (num (wordsAt s k .w1)); x = x; y = y }
+    record { words = wordsAt s k; facts = facts; rules = rules; fact = namedFact s facts (num (wordsAt s k .w1)); x = x; y = y }
 
 -- base is the record of the first node of the accepted sheet
 pub record BaseOf (s : List ℤ) (base : ℕ) : Type 0 where

@@ -9,12 +9,13 @@ ghost use Rattle.signed.specs.Compare.{holds as comparison};
 ghost use Rattle.layout.specs.Header.{headerOf};
 ghost use Rattle.item.specs.Items.{Small, span as itemSpan};
 ghost use Rattle.node.specs.Rows.{bit, isTrue, rowOf};
-ghost use Rattle.node.specs.Judged.{kids, Ready};
+ghost use Rattle.node.specs.Judged.{kids, SmallKids};
 ghost use Rattle.records.specs.Nodes.{itemOf};
 ghost use Rattle.records.specs.Accepted.{Accepted};
-ghost use Rattle.facts.specs.Assembled.{FactsIn};
-ghost use Rattle.predicate.specs.Values.{valueOf, truth, Evaluable};
-ghost use Rattle.predicate.specs.Base.{rowAt, childrenAt, seen, seenAt, factAt, givenAt, BaseOf, NodeAt, EvaluableAt, RangeAt};
+ghost use Rattle.facts.specs.Inner.{FactsIn};
+ghost use Rattle.predicate.specs.Values.{valueOf, truth};
+ghost use Rattle.predicate.specs.Inner.{Evaluable};
+ghost use Rattle.predicate.specs.Base.{rowAt, childrenAt, seen, seenAt, givenAt, BaseOf, NodeAt, EvaluableAt, RangeAt};
 ghost use Rattle.predicate.specs.Verdicts.{verdictsOf};
 ghost use Rattle.predicate.specs.Sizes.{treeSize};
 use item::Item;
@@ -32,7 +33,7 @@ use layout::place;
 use node::Given;
 use node::Kids;
 use node::children;
-use records::fact_sort;
+use records::named_fact;
 use signed::holds;
 use signed::num;
 use signed::same;
@@ -40,7 +41,6 @@ use signed::within;
 use tables::word_entry;
 use words::Words;
 use words::number;
-use words::word;
 use words::words_at;
 
 // Sums, differences and products that are known to lie in −M..M.
@@ -207,26 +207,6 @@ pub fn fill_verdicts(s: &[i64], h: Header, facts: &[i64], out: &mut [i64])
     }
 }
 
-// The type and range of the fact that a node names; Bool, 0 to 0, where there is no such fact.
-fn named_fact(s: &[i64], base: usize, f: usize) -> Item
-    requires { ⌜ BaseOf (now s) base ⌝ }
-    ensures { λ x. ⌜ x ≡ factAt (now (s .entry)) base f ⌝ }
-{
-    if f < base {
-        let sort = fact_sort(
-            number(s, f, place::FACT_TYPE),
-            number(s, f, place::FACT_SET),
-        );
-        span(
-            sort,
-            word(s, f, place::FACT_MIN),
-            word(s, f, place::FACT_MAX),
-        )
-    } else {
-        span(0, 0, 0)
-    }
-}
-
 // The type and range of a literal: its type is t and what word 2 adds.
 fn literal_range(w: Words, t: usize) -> Item
     requires { ⌜ (t ≤ 2) × (wordNumber (w .w2) ≤ 127) ⌝ }
@@ -237,7 +217,7 @@ fn literal_range(w: Words, t: usize) -> Item
 
 // The type and range of a node of kind number k that its row takes.
 fn range_from(k: usize, g: Given) -> Item
-    requires { ⌜ Ready g × (rowOf k .takes g ≡ true) ⌝ }
+    requires { ⌜ SmallKids g × (rowOf k .takes g ≡ true) ⌝ }
     ensures { λ r. ⌜ r ≡ rowOf k .gives g ⌝ }
 {
     let w = g.words;

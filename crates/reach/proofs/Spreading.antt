@@ -10,7 +10,7 @@ use lib.Dec.{eqb}
 use native.Mathlib.Omega.{arith}
 use Rattle.tables.proofs.Bools.{or-assoc}
 use Rattle.tables.specs.Scan.{anyBelow}
-use Rattle.tables.specs.Table.{marked}
+use Rattle.tables.specs.Inner.{marked}
 use Rattle.tables.proofs.Scans.{any-zero, any-more}
 use Rattle.tables.proofs.Entries.{or-false, length-marked, marked-flags}
 use Rattle.words.specs.declared.Record.{Record}

@@ -11,7 +11,7 @@ use Rattle.layout.specs.declared.Header.{Header}
 use Rattle.layout.specs.Tables.{entity, transition, effect}
 use Rattle.records.proofs.OperationLaws.{Declared}
 use Rattle.operation.specs.States.{present}
-use Rattle.operation.specs.Changes.{performed}
+use Rattle.operation.specs.Inner.{performed}
 use Rattle.operation.specs.Ready.{Ready}
 use Rattle.operation.proofs.Guarantees.{changes}
 use Rattle.reach.specs.Reached.{Reached, along}

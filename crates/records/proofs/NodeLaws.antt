@@ -16,7 +16,7 @@ use Rattle.layout.specs.declared.Header.{Header}
 use Rattle.item.specs.declared.Item.{Item}
 use Rattle.item.specs.Items.{none, small, Small}
 use Rattle.node.specs.declared.Given.{Given}
-use Rattle.node.specs.Judged.{fits}
+use Rattle.node.specs.Rows.{fits}
 use Rattle.node.proofs.Judged.{small-of}
 use Rattle.records.specs.Nodes.{nodeWords, nodeRow, childrenOf, namedFact, givenOf, itemStep, itemOf, treeStep, treeOf, namedByNodes, goodChildren, goodNode}
 

@@ -3,8 +3,9 @@
 use mathlib.Core.Path.{_≡_}
 use mathlib.Core.Bool.{true}
 use mathlib.Core.List.{List}
-use Prim.Native.Nat.{ℕ, _<_}
+use Prim.Native.Nat.{ℕ, _+_, _*_, _≤_, _<_}
 use lib.IntN.{ℤ}
+use lib.ListN.{length}
 use Rattle.layout.specs.declared.Header.{Header}
 use Rattle.layout.specs.Header.{headerOf}
 use Rattle.layout.specs.Sized.{Sized}
@@ -16,6 +17,11 @@ use Rattle.records.specs.Rules.{goodRule}
 use Rattle.records.specs.Entities.{goodEntity, goodTransition}
 use Rattle.records.specs.Operations.{goodOperation, goodEffect}
 use Rattle.records.specs.Flows.{goodFlow, goodStep, goodRoute}
+
+-- the sheet holds n facts, and they are good
+pub record GoodFacts (s : List ℤ) (n : ℕ) : Type 0 where
+  pub held : 16 + 8 * n ≤ length s
+  pub each : (k : ℕ) → k < n → goodFact s k ≡ true
 
 -- the sheet s, with the header h, has no fault
 pub record Accepted (s : List ℤ) (h : Header) : Type 0 where

@@ -16,8 +16,7 @@ use Rattle.layout.specs.Header.{firstNode}
 use Rattle.item.specs.declared.Item.{Item}
 use Rattle.item.specs.Items.{none}
 use Rattle.node.specs.declared.Given.{Given}
-use Rattle.node.specs.Rows.{Row, rowOf}
-use Rattle.node.specs.Judged.{fits}
+use Rattle.node.specs.Rows.{Row, rowOf, fits}
 use Rattle.records.specs.Facts.{factItem}
 
 -- the words of node n, and the row of its kind
@@ -34,9 +33,9 @@ childrenOf s h n = nodeRow s h n .children (nodeWords s h n)
 abbrev pub citedBy : List ℤ → Header → ℕ → List ℕ
 citedBy s h n = nodeRow s h n .cites (nodeWords s h n)
 
--- the type and range of a fact that a node names, where there is one
-abbrev pub namedFact : List ℤ → Header → ℕ → Item
-namedFact s h f = cond (ltb f (h .facts)) (factItem s f) none
+-- the type and range of a fact that a node names, where there is one among so many facts
+abbrev pub namedFact : List ℤ → ℕ → ℕ → Item
+namedFact s facts f = cond (ltb f facts) (factItem s f) none
 
 -- what node n is worked out from; `look` gives the types and ranges of its children
 abbrev pub givenOf : List ℤ → Header → (ℕ → Item) → ℕ → Given
@@ -45,7 +44,7 @@ givenOf s h look n =
       words = nodeWords s h n;
       facts = h .facts;
       rules = h .rules;
-      fact = namedFact s h (num (nodeWords s h n .w1));
+      fact = namedFact s (h .facts) (num (nodeWords s h n .w1));
       x = pick look none (childrenOf s h n) 0;
       y = pick look none (childrenOf s h n) 1;
     }

@@ -35,6 +35,10 @@ effectsEnd s h o = effectStartOf (operation s h o) + effectCountOf (operation s 
 unfoldable pub operationOf : List ℤ → Header → ℕ → ℕ
 operationOf s h e = firstFail (λ o. leb (effectsEnd s h o) e) 0 (h .operations)
 
+-- how many outcomes operation o has; the outcome of effect e
+abbrev pub outcomes : List ℤ → Header → ℕ → ℕ
+outcomes s h o = outcomesOf (operation s h o)
+
 abbrev pub outcome : List ℤ → Header → ℕ → ℕ
 outcome s h e = outcomeOf (effect s h e)
 
@@ -60,7 +64,7 @@ goodEffectOf s h o e =
     goodChange s h (effect s h e)
     && declared s h (h .transitions) (effect s h e)
     && unused 4 (effect s h e)
-    && goodOutcome (eqb e (effectStartOf (operation s h o))) (eqb (e + 1) (effectsEnd s h o)) (outcome s h (e - 1)) (outcomesOf (operation s h o)) (outcome s h e)
+    && goodOutcome (eqb e (effectStartOf (operation s h o))) (eqb (e + 1) (effectsEnd s h o)) (outcome s h (e - 1)) (outcomes s h o) (outcome s h e)
     && not (anyBelow (sameSource s h e) e)
 
 unfoldable pub goodEffect : List ℤ → Header → ℕ → Bool

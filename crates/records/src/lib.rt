@@ -5,10 +5,18 @@ ghost use mathlib.Core.Bool.{true};
 ghost use Rattle.layout.specs.Sized.{Sized};
 ghost use Rattle.node.specs.FactTypes.{factTypeOf};
 ghost use Rattle.records.specs.Facts.{goodDefault};
-ghost use Rattle.records.specs.Entities.{goodEntity, goodChange};
-ghost use Rattle.records.specs.Operations.{goodMask, goodOperation, goodOutcome};
+ghost use Rattle.records.specs.Nodes.{namedFact};
+ghost use Rattle.records.specs.Accepted.{GoodFacts};
+ghost use Rattle.records.specs.Rules.{stratum};
+ghost use Rattle.records.specs.Entities.{states, goodEntity, goodChange};
+ghost use Rattle.records.specs.Operations.{outcomes, goodMask, goodOperation, goodOutcome};
 ghost use Rattle.records.specs.Flows.{goodOperationStep, goodRouteOf};
+use item::Item;
+use item::span;
+use layout::Entity;
 use layout::Header;
+use layout::Operation;
+use layout::Rule;
 use layout::place;
 use signed::at_most;
 use signed::bounded;
@@ -17,6 +25,7 @@ use signed::within;
 use words::Record;
 use words::number;
 use words::unused;
+use words::word;
 
 // The tests of a fact by its type.
 pub fn good_bounds(kind: usize, min: i64, max: i64) -> bool
@@ -44,7 +53,7 @@ pub fn good_set(kind: usize, set: usize) -> bool
 }
 
 // The type of a fact's values.
-pub fn fact_sort(kind: usize, set: usize) -> usize
+fn fact_sort(kind: usize, set: usize) -> usize
     requires { ⌜ set ≤ 127 ⌝ }
     ensures { λ t. ⌜ t ≡ factTypeOf kind .sort set ⌝ }
 {
@@ -53,6 +62,26 @@ pub fn fact_sort(kind: usize, set: usize) -> usize
         1 => 1,
         2 => 2 + set,
         3.. => 0,
+    }
+}
+
+// The type and range of the fact that a node names, where there are so many facts; Bool, 0 to 0, where there is no such fact.
+pub fn named_fact(s: &[i64], facts: usize, f: usize) -> Item
+    requires { ⌜ GoodFacts (now s) facts ⌝ }
+    ensures { λ x. ⌜ x ≡ namedFact (now (s .entry)) facts f ⌝ }
+{
+    if f < facts {
+        let sort = fact_sort(
+            number(s, f, place::FACT_TYPE),
+            number(s, f, place::FACT_SET),
+        );
+        span(
+            sort,
+            word(s, f, place::FACT_MIN),
+            word(s, f, place::FACT_MAX),
+        )
+    } else {
+        span(0, 0, 0)
     }
 }
 
@@ -74,12 +103,36 @@ pub fn good_entity(r: Record) -> bool
     (1 <= r.w0) & (r.w0 <= 16) & (r.w1 < r.w0) & unused(2, r)
 }
 
+// How many states an entity has.
+pub fn states_of(s: &[i64], h: Header, n: Entity) -> usize
+    requires { ⌜ Sized (now s) h × (n .0 < h .entities) ⌝ }
+    ensures { λ r. ⌜ r ≡ states (now (s .entry)) h (n .0) ⌝ }
+{
+    number(s, h.first_entity() + n.0, place::ENTITY_STATES)
+}
+
+// A rule's stratum.
+pub fn stratum_of(s: &[i64], h: Header, k: Rule) -> usize
+    requires { ⌜ Sized (now s) h × (k .0 < h .rules) ⌝ }
+    ensures { λ r. ⌜ r ≡ stratum (now (s .entry)) h (k .0) ⌝ }
+{
+    number(s, h.first_rule() + k.0, place::RULE_STRATUM)
+}
+
+// How many outcomes an operation has.
+pub fn outcomes_of(s: &[i64], h: Header, o: Operation) -> usize
+    requires { ⌜ Sized (now s) h × (o .0 < h .operations) ⌝ }
+    ensures { λ r. ⌜ r ≡ outcomes (now (s .entry)) h (o .0) ⌝ }
+{
+    number(s, h.first_operation() + o.0, place::OPERATION_OUTCOMES)
+}
+
 pub fn good_change(s: &[i64], h: Header, r: Record) -> bool
     requires { ⌜ Sized (now s) h ⌝ }
     ensures { λ b. ⌜ b ≡ goodChange (now (s .entry)) h r ⌝ }
 {
     if r.w0 < h.entities {
-        let n = number(s, h.first_entity() + r.w0, place::ENTITY_STATES);
+        let n = states_of(s, h, Entity(r.w0));
         (r.w1 < n) & (r.w2 < n)
     } else {
         false
@@ -115,7 +168,7 @@ pub fn good_operation_step(s: &[i64], h: Header, r: Record) -> bool
     ensures { λ b. ⌜ b ≡ goodOperationStep (now (s .entry)) h r ⌝ }
 {
     if r.w1 < h.operations {
-        let outcomes = number(s, h.first_operation() + r.w1, place::OPERATION_OUTCOMES);
+        let outcomes = outcomes_of(s, h, Operation(r.w1));
         (r.w2 < h.personas) & (r.w4 == outcomes + 1)
     } else {
         false

@@ -10,7 +10,7 @@ use native.Mathlib.Omega.{arith}
 use borrow.Author.Tests.{ltb-true}
 use Rattle.signed.specs.Words.{num}
 use Rattle.answer.specs.declared.Count.the-variants.{Is, Refused as NoCount}
-use Rattle.answer.specs.Answers.{SmallCount}
+use Rattle.answer.specs.Inner.{SmallCount}
 use Rattle.layout.specs.declared.Header.{Header}
 use Rattle.layout.specs.Tables.{flow}
 use Rattle.records.specs.Accepted.{Accepted}
@@ -30,7 +30,8 @@ use Rattle.causes.specs.Causes.{admissible, canCause}
 use Rattle.ladder.specs.Ladder.{opened, exists}
 use Rattle.ladder.proofs.ClimbLaws.{opened-at}
 use Rattle.ladder.proofs.Small.{opened-small, rungs-small, by-small, call-small}
-use Rattle.calls.specs.Reports.{reportRungs, reported, yesNo, outcomes}
+use Rattle.records.specs.Operations.{outcomes}
+use Rattle.calls.specs.Reports.{reportRungs, reported, yesNo}
 use Rattle.calls.specs.Reports.{statesAnswer, reachableAnswer, admissibleAnswer, canCauseAnswer, rulesAnswer, stratumAnswer, outcomesAnswer, treeSizeAnswer, depthAnswer}
 use Rattle.reports.proofs.ReportLaws.{asked}
 

@@ -2,12 +2,11 @@
 ghost use mathlib.Core.Path.{_≡_};
 ghost use Prim.Native.Nat.{_<_};
 ghost use Rattle.records.specs.Accepted.{Accepted};
-ghost use Rattle.records.specs.Entities.{states};
-ghost use Rattle.records.specs.Rules.{stratum};
-ghost use Rattle.calls.specs.Reports.{reportClimb, stateExists, yesNo, outcomes, admissibleNumbers, causeNumbers};
-ghost use Rattle.calls.specs.Reports.{statesAnswer, reachableAnswer, admissibleAnswer, canCauseAnswer, rulesAnswer, stratumAnswer, outcomesAnswer, treeSizeAnswer, depthAnswer};
+ghost use Rattle.signed.specs.Words.{num as wordNumber};
+ghost use Rattle.calls.specs.Reports.{reportClimb, reported, stateExists, yesNo, admissibleNumbers, causeNumbers};
+ghost use Rattle.calls.specs.Reports.{admissibleAnswer, canCauseAnswer, rulesAnswer};
 ghost use Rattle.ladder.specs.Ladder.{exists};
-ghost use Rattle.reports.specs.Tables.{size};
+ghost use Rattle.reports.specs.Figures.{size, figure};
 use answer::Count;
 use ladder::Climbed;
 use ladder::exists;
@@ -21,35 +20,55 @@ use layout::Node;
 use layout::Operation;
 use layout::Persona;
 use layout::Rule;
-use layout::place;
 use listing::longest;
+use predicate::tree_size;
+use reach::reachable;
+use records::outcomes_of;
+use records::states_of;
+use records::stratum_of;
 use signed::num;
-use words::number;
 
-// The tables whose records a report takes by number.
-enum Table {
-    Entities,
-    Rules,
-    Operations,
-    Nodes,
-    Flows,
+// The reports that take one number, that of a record.
+pub enum Report {
+    States,
+    Reachable,
+    Stratum,
+    Outcomes,
+    TreeSize,
+    Depth,
 }
 
-// How many records a table has.
-fn size(h: Header, t: Table) -> usize
+// How many records there are of the kind that a report asks about.
+fn size(h: Header, t: Report) -> usize
     ensures { λ n. ⌜ n ≡ size h t ⌝ }
 {
     match t {
-        Table::Entities => h.entities,
-        Table::Rules => h.rules,
-        Table::Operations => h.operations,
-        Table::Nodes => h.nodes,
-        Table::Flows => h.flows,
+        Report::States => h.entities,
+        Report::Reachable => h.entities,
+        Report::Stratum => h.rules,
+        Report::Outcomes => h.operations,
+        Report::TreeSize => h.nodes,
+        Report::Depth => h.flows,
+    }
+}
+
+// What a report says of record n of that kind.
+fn figure(s: &[i64], h: Header, t: Report, n: usize) -> usize
+    requires { ⌜ Accepted (now s) h × (n < size h t) ⌝ }
+    ensures { λ r. ⌜ r ≡ figure (now (s .entry)) h t n ⌝ }
+{
+    match t {
+        Report::States => states_of(s, h, Entity(n)),
+        Report::Reachable => reachable(s, h, Entity(n)),
+        Report::Stratum => stratum_of(s, h, Rule(n)),
+        Report::Outcomes => outcomes_of(s, h, Operation(n)),
+        Report::TreeSize => tree_size(s, h, Node(n)),
+        Report::Depth => longest(s, h, Flow(n)),
     }
 }
 
 // The rungs of a report that takes one number.
-fn find(s: &[i64], t: Table, x: i64) -> Climbed
+fn find(s: &[i64], t: Report, x: i64) -> Climbed
     ensures { λ c. ⌜ c ≡ reportClimb (now (s .entry)) (λ h. exists x (size h t)) ⌝ }
 {
     match open_sheet(s) {
@@ -61,50 +80,13 @@ fn find(s: &[i64], t: Table, x: i64) -> Climbed
     }
 }
 
-// How many states an entity has.
-fn states_of(s: &[i64], h: Header, n: Entity) -> usize
-    requires { ⌜ Accepted (now s) h ⌝ }
-    requires { ⌜ n .0 < h .entities ⌝ }
-    ensures { λ r. ⌜ r ≡ states (now (s .entry)) h (n .0) ⌝ }
+// S1, S2, S5 and S7: a report that takes one number.
+pub fn look_up(s: &[i64], t: Report, x: i64) -> Count
+    ensures { λ r. ⌜ r ≡ reported (now (s .entry)) (λ h. exists x (size h t)) (λ h. figure (now (s .entry)) h t (wordNumber x)) ⌝ }
 {
-    number(s, h.first_entity() + n.0, place::ENTITY_STATES)
-}
-
-// A rule's stratum.
-fn stratum_of(s: &[i64], h: Header, k: Rule) -> usize
-    requires { ⌜ Accepted (now s) h ⌝ }
-    requires { ⌜ k .0 < h .rules ⌝ }
-    ensures { λ r. ⌜ r ≡ stratum (now (s .entry)) h (k .0) ⌝ }
-{
-    number(s, h.first_rule() + k.0, place::RULE_STRATUM)
-}
-
-// How many outcomes an operation has.
-fn outcomes_of(s: &[i64], h: Header, o: Operation) -> usize
-    requires { ⌜ Accepted (now s) h ⌝ }
-    requires { ⌜ o .0 < h .operations ⌝ }
-    ensures { λ r. ⌜ r ≡ outcomes (now (s .entry)) h (o .0) ⌝ }
-{
-    number(s, h.first_operation() + o.0, place::OPERATION_OUTCOMES)
-}
-
-// S1: the number of an entity's states.
-pub fn states(s: &[i64], entity: i64) -> Count
-    ensures { λ r. ⌜ r ≡ statesAnswer (now (s .entry)) entity ⌝ }
-{
-    match find(s, Table::Entities, entity) {
+    match find(s, t, x) {
         Climbed::Stopped(r) => Count::Refused(r),
-        Climbed::At(h) => Count::Is(states_of(s, h, Entity(num(entity)))),
-    }
-}
-
-// S2: a mask of the states that are reached from the initial one.
-pub fn reachable(s: &[i64], entity: i64) -> Count
-    ensures { λ r. ⌜ r ≡ reachableAnswer (now (s .entry)) entity ⌝ }
-{
-    match find(s, Table::Entities, entity) {
-        Climbed::Stopped(r) => Count::Refused(r),
-        Climbed::At(h) => Count::Is(reach::reachable(s, h, Entity(num(entity)))),
+        Climbed::At(h) => Count::Is(figure(s, h, t, num(x))),
     }
 }
 
@@ -197,45 +179,5 @@ pub fn rules(s: &[i64]) -> Count
     match open_sheet(s) {
         Climbed::Stopped(r) => Count::Refused(r),
         Climbed::At(h) => Count::Is(h.rules),
-    }
-}
-
-// S5: a rule's stratum.
-pub fn stratum(s: &[i64], rule: i64) -> Count
-    ensures { λ r. ⌜ r ≡ stratumAnswer (now (s .entry)) rule ⌝ }
-{
-    match find(s, Table::Rules, rule) {
-        Climbed::Stopped(r) => Count::Refused(r),
-        Climbed::At(h) => Count::Is(stratum_of(s, h, Rule(num(rule)))),
-    }
-}
-
-// S5: the number of an operation's outcomes.
-pub fn outcomes(s: &[i64], operation: i64) -> Count
-    ensures { λ r. ⌜ r ≡ outcomesAnswer (now (s .entry)) operation ⌝ }
-{
-    match find(s, Table::Operations, operation) {
-        Climbed::Stopped(r) => Count::Refused(r),
-        Climbed::At(h) => Count::Is(outcomes_of(s, h, Operation(num(operation)))),
-    }
-}
-
-// S7: the number of nodes in the tree under a node.
-pub fn tree_size(s: &[i64], node: i64) -> Count
-    ensures { λ r. ⌜ r ≡ treeSizeAnswer (now (s .entry)) node ⌝ }
-{
-    match find(s, Table::Nodes, node) {
-        Climbed::Stopped(r) => Count::Refused(r),
-        Climbed::At(h) => Count::Is(predicate::tree_size(s, h, Node(num(node)))),
-    }
-}
-
-// S7: the number of steps on a flow's longest path.
-pub fn depth(s: &[i64], flow: i64) -> Count
-    ensures { λ r. ⌜ r ≡ depthAnswer (now (s .entry)) flow ⌝ }
-{
-    match find(s, Table::Flows, flow) {
-        Climbed::Stopped(r) => Count::Refused(r),
-        Climbed::At(h) => Count::Is(longest(s, h, Flow(num(flow)))),
     }
 }

@@ -15,14 +15,15 @@ use Rattle.layout.specs.declared.Header.{Header}
 use Rattle.layout.specs.Tables.{flow}
 use Rattle.records.specs.Flows.{flowOf}
 use Rattle.records.proofs.FlowLaws.{flow-ok, flow-of}
-use Rattle.operation.specs.States.{StatesIn}
+use Rattle.operation.specs.Inner.{StatesIn}
 use Rattle.listing.specs.declared.Walker.{Walker}
 use Rattle.listing.specs.Paths.{stepsOf}
 use Rattle.listing.specs.Walkers.{started, taken}
 use Rattle.listing.specs.Calls.{laid}
 use Rattle.listing.proofs.Trails.{trail-going}
 use Rattle.listing.proofs.Walks.{going-room}
-use Rattle.run.specs.Runs.{routeTaken, statesThen, Running, begun, stepped, runOn, ran, ranWalk, ranPath, ranStates, Steppable, Runnable}
+use Rattle.run.specs.Runs.{routeTaken, statesThen, Running, begun, stepped, runOn, ran, ranWalk, ranPath, ranStates}
+use Rattle.run.specs.Inner.{Steppable, Runnable}
 use Rattle.run.proofs.StepLaws.{route-of, routes-end}
 use Rattle.run.proofs.RunPaths.{Held, held-begun, held-room, held-step, held-stepped, run-stops, run-steps}
 

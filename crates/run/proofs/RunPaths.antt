@@ -9,17 +9,18 @@ use lib.IntN.{ℤ}
 use lib.ListN.{length, replicate, length-replicate}
 use native.Mathlib.Omega.{arith}
 use Rattle.tables.proofs.Bools.{bool-cases}
-use Rattle.answer.specs.Answers.{SmallWalk}
+use Rattle.answer.specs.Inner.{SmallWalk}
 use Rattle.layout.specs.declared.Header.{Header}
-use Rattle.operation.specs.States.{StatesIn}
+use Rattle.operation.specs.Inner.{StatesIn}
 use Rattle.listing.specs.Paths.{stepsOf}
 use Rattle.listing.specs.Walkers.{taken}
-use Rattle.listing.specs.Calls.{Lent}
+use Rattle.listing.specs.Inner.{Lent}
 use Rattle.listing.proofs.AllPaths.{path-small}
 use Rattle.listing.proofs.Buffers.{length-laid}
 use Rattle.listing.proofs.Walks.{going-room, going-step}
 use Rattle.listing.proofs.Trails.{Trail, begun as set-out, went, trail-going, trail-is-path, trail-listed, trail-short, trail-arrives}
-use Rattle.run.specs.Runs.{routeTaken, Running, begun, stepped, runOn, ran, ranWalk, ranPath, ranStates, Steppable, Runnable, Taken}
+use Rattle.run.specs.Runs.{routeTaken, Running, begun, stepped, runOn, ran, ranWalk, ranPath, ranStates}
+use Rattle.run.specs.Inner.{Steppable, Runnable, Taken}
 use Rattle.run.proofs.StepLaws.{route-of, states-then-in}
 
 -- ---- a run by its steps

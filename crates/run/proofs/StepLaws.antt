@@ -16,15 +16,18 @@ use Rattle.layout.specs.declared.Header.{Header}
 use Rattle.layout.specs.Tables.{operation, step}
 use Rattle.records.proofs.FlowLaws.{StepKind, performs as is-operation, branches as is-branch, step-is}
 use Rattle.records.proofs.OperationLaws.{operation-ok}
-use Rattle.predicate.specs.Values.{truth, Evaluable}
+use Rattle.predicate.specs.Values.{truth}
+use Rattle.predicate.specs.Inner.{Evaluable}
 use Rattle.operation.specs.Mask.{allowed}
-use Rattle.operation.specs.States.{StatesIn}
+use Rattle.operation.specs.Inner.{StatesIn}
 use Rattle.operation.specs.Ready.{Ready}
-use Rattle.attempt.specs.Attempts.{precondition, Attemptable, attemptedIf, attempted, attemptedStatesIf, attemptedStates}
+use Rattle.attempt.specs.Attempts.{precondition, attemptedIf, attempted, attemptedStates}
+use Rattle.attempt.specs.Inner.{Attemptable, attemptedStatesIf}
 use Rattle.attempt.proofs.AttemptLaws.{refused-states, outcome-below, attempted-in, evaluable as condition, attempt-admits}
 use Rattle.listing.specs.Paths.{firstRouteOf, routesOf, RouteOf}
 use Rattle.listing.proofs.Ways.{step-ends}
-use Rattle.run.specs.Runs.{performs, operationAt, personaAt, nodeAt, answerRoute, branchRoute, routeTaken, statesThen, Steppable}
+use Rattle.run.specs.Runs.{performs, operationAt, personaAt, nodeAt, answerRoute, branchRoute, routeTaken, statesThen}
+use Rattle.run.specs.Inner.{Steppable}
 
 -- ---- by the step's kind
 

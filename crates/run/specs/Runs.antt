@@ -1,9 +1,8 @@
 -- 01, "Flow" under "Evaluation": a run of a flow. "Facts and verdicts are fixed at its start."
 -- Assumes nothing.
-use mathlib.Core.Path.{_≡_}
 use mathlib.Core.Bool.{Bool, true, false}
 use mathlib.Core.List.{List, [], _∷_, _++_}
-use Prim.Native.Nat.{ℕ, zero, suc, _+_, _-_, _≤_, _<_}
+use Prim.Native.Nat.{ℕ, zero, suc, _+_, _-_}
 use lib.IntN.{ℤ}
 use lib.ListN.{length}
 use lib.Dec.{eqb}
@@ -12,15 +11,12 @@ use Rattle.answer.specs.declared.Count.the-variants.{Is, Refused}
 use Rattle.answer.specs.declared.Walk.{Walk}
 use Rattle.layout.specs.declared.Header.{Header}
 use Rattle.layout.specs.Tables.{step, kindOf, nodeNamed, personaNamed, operationNamed}
-use Rattle.records.specs.Accepted.{Accepted}
-use Rattle.facts.specs.Assembled.{FactsIn}
-use Rattle.predicate.specs.Values.{truth, Truths}
-use Rattle.operation.specs.States.{StatesIn}
+use Rattle.predicate.specs.Values.{truth}
 use Rattle.attempt.specs.Attempts.{attempted, attemptedStates}
 use Rattle.listing.specs.declared.Walker.{Walker}
-use Rattle.listing.specs.Paths.{stepsOf, firstRouteOf, routesOf, paths, At}
+use Rattle.listing.specs.Paths.{stepsOf, firstRouteOf, routesOf}
 use Rattle.listing.specs.Walkers.{started, taken, arrived}
-use Rattle.listing.specs.Calls.{Lent, walkOf, laid}
+use Rattle.listing.specs.Calls.{laid}
 
 -- ---- one step
 
@@ -106,26 +102,4 @@ ranStates s h facts verdicts states f = ran s h facts verdicts states f .states
 
 -- ---- what is asked
 
--- what step i asks, besides states of their entities: an accepted sheet, facts in their ranges, verdicts, and that there is such a step
-pub record Steppable (s : List ℤ) (h : Header) (facts verdicts : List ℤ) (i : ℕ) : Type 0 where
-  pub accepted : Accepted s h
-  pub known : FactsIn s h facts
-  pub judged : Truths verdicts
-  pub exists : i < h .steps
-
--- what a run of flow f asks: the same, with a flow of the sheet and a buffer at least as long as the flow has steps
-pub record Runnable (s : List ℤ) (h : Header) (facts verdicts states : List ℤ) (f : ℕ) (b : List ℕ) : Type 0 where
-  pub known : FactsIn s h facts
-  pub judged : Truths verdicts
-  pub valid : StatesIn s h states
-  pub lent : Lent s h f b
-
 -- ---- what is shown
-
--- demand 3, of a run: it "takes the routes of one of these paths and answers that path with its length and terminal"; and it is finished
--- within as many steps as the flow has
-pub record Taken (s : List ℤ) (h : Header) (f : ℕ) (t : Running) (answer : Walk) : Type 0 where
-  pub finished : t .walker .finished ≡ true
-  pub listed : At (paths s h f) (t .path)
-  pub answers : answer ≡ walkOf s h (t .path)
-  pub within : length (t .path) ≤ stepsOf s h f

@@ -24,9 +24,9 @@ use Rattle.layout.specs.Header.{firstOperation, firstEffect}
 use Rattle.layout.specs.Tables.{operation, effect}
 use Rattle.records.specs.Entities.{goodChange, declared}
 use Rattle.records.specs.Operations.{goodEffect, goodEffectOf, goodOutcome, operationOf, outcome, effectsEnd, sameSource}
-use Rattle.sheet_states.specs.Flags.{Small, placeOf}
+use Rattle.sheet_states.specs.Flags.{SmallChange, placeOf}
 use Rattle.sheet_states.proofs.Flags.{small-change}
-use Rattle.sheet_effects.specs.Stamps.{sourceOf, stampOf, lastStamp, Before, Group, Seen, Stretch}
+use Rattle.sheet_effects.specs.Stamps.{sourceOf, stampOf, lastStamp, BeforeEffects, Group, Seen, Stretch}
 use Rattle.sheet_effects.proofs.Stamps.{outcomeTest, effect-outcome, out-small, ordered, ordered-next, any-last, same-source, belongs, ends-in, starts, covers}
 
 -- at the loop's head: e good effects so far, and the outcome of the effect before
@@ -64,7 +64,7 @@ unfolding goodOutcome
 first-any last b b′ outcomes out = refl
 
 module _ (s : List ℤ) (h : Header) (d : List Bool) (o first end outcomes e before : ℕ) {room : ℕ} (t : List ℕ)
-    (z : Before s h d) (g : Group s h o first end outcomes) (w : Turn s h room first end e before t) (l : e < end) where
+    (z : BeforeEffects s h d) (g : Group s h o first end outcomes) (w : Turn s h room first end e before t) (l : e < end) where
   pub inside : e < h .effects
   inside = omega (arith, ends-in s h (z .groups) (z .operations) o (g .here), g .ends)
 
@@ -96,13 +96,13 @@ module _ (s : List ℤ) (h : Header) (d : List Bool) (o first end outcomes e bef
       tested : outcomeTest s h (operationOf s h e) e ≡ true
       tested = let q = simp tests at p in sym test-is ∙ (rw (ec, is) at (q .1))
 
-      pub flagged : Small h r
+      pub flagged : SmallChange h r
       flagged = rw is (small-change s h (effect s h e) (z .entities) changed)
 
       pub few : r .w3 < 8
       few = rw is (out-small s h (z .groups) (z .operations) e inside tested)
 
-      small-before : (j : ℕ) → j < e → Small h (effect s h j)
+      small-before : (j : ℕ) → j < e → SmallChange h (effect s h j)
       small-before j q = small-change s h (effect s h j) (z .entities) (effect-change s h j (w .seen .good j q))
 
       any-is : anyBelow (sameSource s h e) e ≡ eqb (getD t (sourceOf (effect s h e)) 0) (stampOf s h e)
@@ -172,7 +172,7 @@ set-out s h m t l e =
     none : (x : ℕ) → 0 ≡ lastStamp s h x 0
     none x = unfold lastStamp in refl
 
-module _ (s : List ℤ) (h : Header) (d : List Bool) (o first : ℕ) {room : ℕ} (t : List ℕ) (z : Before s h d) (w : Walk s h room o first t) (l : o < h .operations)
+module _ (s : List ℤ) (h : Header) (d : List Bool) (o first : ℕ) {room : ℕ} (t : List ℕ) (z : BeforeEffects s h d) (w : Walk s h room o first t) (l : o < h .operations)
     {base m : ℕ} (eb : base ≡ firstOperation h) (em : m ≡ number s (base + o) 3) where
   count-is : m ≡ operation s h o .w3
   count-is = em ∙ rw eb (unfold recordAt in refl)
@@ -205,7 +205,7 @@ module _ (s : List ℤ) (h : Header) (d : List Bool) (o first : ℕ) {room : ℕ
     pub found : e < first + m → e ≡ firstFail (goodEffect s h) 0 (h .effects)
     found q = fail-at (goodEffect s h) (h .effects) e (omega (arith, end-inside)) (x .good) (⊎-elim (λ p. absurd (x .bad q p)) (λ p. p) (bool-cases (goodEffect s h e)))
 
-pub arrived : (s : List ℤ) (h : Header) (d : List Bool) (o first : ℕ) {room : ℕ} (t : List ℕ) → Before s h d → Walk s h room o first t → h .operations ≤ o → first ≡ firstFail (goodEffect s h) 0 (h .effects)
+pub arrived : (s : List ℤ) (h : Header) (d : List Bool) (o first : ℕ) {room : ℕ} (t : List ℕ) → BeforeEffects s h d → Walk s h room o first t → h .operations ≤ o → first ≡ firstFail (goodEffect s h) 0 (h .effects)
 arrived s h d o first t z w l =
     let e : first ≡ h .effects = w .at ∙ ap (sumBelow (λ k. operation s h k .w3)) (omega (arith, w .here)) ∙ covers s h (z .groups) in
     fail-none (goodEffect s h) (h .effects) first (omega (arith, e)) (omega (arith, e)) (w .seen .good)

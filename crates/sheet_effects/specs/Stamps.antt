@@ -31,7 +31,7 @@ lastStamp s h x zero = 0
 lastStamp s h x (suc k) = cond (eqb (sourceOf (effect s h k)) x) (stampOf s h k) (lastStamp s h x k)
 
 -- what is known before the effects are scanned
-pub record Before (s : List ℤ) (h : Header) (t : List Bool) : Type 0 where
+pub record BeforeEffects (s : List ℤ) (h : Header) (t : List Bool) : Type 0 where
   pub sized : Sized s h
   pub groups : goodGroups s h ≡ true
   pub entities : (k : ℕ) → k < h .entities → goodEntity (entity s h k) ≡ true

@@ -8,7 +8,7 @@ ghost use lib.ListN.{length, getD, replicate};
 ghost use Rattle.tables.specs.Scan.{firstFail};
 ghost use Rattle.sheet_states.specs.Flags.{placeOf};
 ghost use Rattle.records.specs.Operations.{goodEffect};
-ghost use Rattle.sheet_effects.specs.Stamps.{sourceOf, Before, Group, Seen, Stretch};
+ghost use Rattle.sheet_effects.specs.Stamps.{sourceOf, BeforeEffects, Group, Seen, Stretch};
 use layout::Header;
 use layout::place;
 use records::good_change;
@@ -40,7 +40,7 @@ fn check_group(
     declared: &[bool],
     seen: &mut [usize],
 ) -> usize
-    requires { ⌜ Before (now s) h (now declared) × Group (now s) h o first end outcomes × Seen (now s) h (length (now seen)) first (now seen) ⌝ }
+    requires { ⌜ BeforeEffects (now s) h (now declared) × Group (now s) h o first end outcomes × Seen (now s) h (length (now seen)) first (now seen) ⌝ }
     ensures { λ e. ⌜ Stretch (now (s .entry)) h (length (now (seen .entry))) first end e (now (seen .exit)) ⌝ }
 {
     let base = h.first_effect();
@@ -66,7 +66,7 @@ fn check_group(
 
 // `seen` has no stamp yet.
 pub fn check_effects(s: &[i64], h: Header, declared: &[bool], seen: &mut [usize]) -> usize
-    requires { ⌜ Before (now s) h (now declared) × (16 * h .entities ≤ length (now seen)) × (now seen ≡ replicate (length (now seen)) 0) ⌝ }
+    requires { ⌜ BeforeEffects (now s) h (now declared) × (16 * h .entities ≤ length (now seen)) × (now seen ≡ replicate (length (now seen)) 0) ⌝ }
     ensures { λ e. ⌜ e ≡ firstFail (goodEffect (now (s .entry)) h) 0 (h .effects) ⌝ }
 {
     let base = h.first_operation();

@@ -21,10 +21,10 @@ use Rattle.layout.specs.Tables.{flow, step}
 use Rattle.layout.proofs.Owners.{holder-is}
 use Rattle.records.specs.Flows.{goodRoute, goodRouteOf, routesEnd, stepsEnd, flowOf, stepOf}
 use Rattle.sheet_flows.specs.declared.Cursor.{Cursor}
-use Rattle.sheet_flows.specs.Routes.{Ready, Room, At, Stretch, moved}
+use Rattle.sheet_flows.specs.Routes.{FlowsGood, Room, StepAt, Stretch, moved}
 use Rattle.sheet_flows.proofs.Flows.{steps-of, routes-of, flow-start, flow-some, step-start}
 
-module _ (s : List ℤ) (h : Header) (z : Ready s h) where
+module _ (s : List ℤ) (h : Header) (z : FlowsGood s h) where
   flow-starts : (f : ℕ) → f < h .flows → flow s h f .w0 ≡ sumBelow (λ k. flow s h k .w1) f
   unfolding recordAt
   flow-starts f l = flow-start s h f (z .flows f l)
@@ -58,7 +58,7 @@ pub record Turn (s : List ℤ) (h : Header) (first end k : ℕ) : Type 0 where
 pub begin : (s : List ℤ) (h : Header) (first end : ℕ) → first ≤ end → Turn s h first end first
 begin s h first end l = record { low = omega arith; high = l; good = λ j p q. absurd (omega arith) }
 
-module _ (s : List ℤ) (h : Header) (i last first end k : ℕ) (z : Ready s h) (a : At s h i last first end) (w : Turn s h first end k) (l : k < end) where
+module _ (s : List ℤ) (h : Header) (i last first end k : ℕ) (z : FlowsGood s h) (a : StepAt s h i last first end) (w : Turn s h first end k) (l : k < end) where
   pub inside : k < h .routes
   inside = omega (arith, routes-inside s h z i (a .here), a .ends)
 
@@ -94,7 +94,7 @@ pub set-out : (s : List ℤ) (h : Header) → Walk s h 0 0 (record { flows = 0; 
 set-out s h =
     record { here = omega arith; at = sym (sum-zero (routeCount s h)); few = omega arith; sum = sym (sum-zero (stepCount s h)); reached = omega arith; within = λ f e. absurd (omega (arith, e)); good = λ j l. absurd (omega arith) }
 
-pub room : (s : List ℤ) (h : Header) (i k : ℕ) (c : Cursor) → Ready s h → Walk s h i k c → i < h .steps → Room s h c i
+pub room : (s : List ℤ) (h : Header) (i k : ℕ) (c : Cursor) → FlowsGood s h → Walk s h i k c → i < h .steps → Room s h c i
 room s h i k c z w l = record { ready = z; here = l; few = w .few; sum = w .sum; reached = w .reached; within = w .within }
 
 -- a cursor that has moved to step i has the flow of i
@@ -132,7 +132,7 @@ settled s h c i r = go (ℕ-discrete i (c .last))
             let e′ : c .flows ≡ f + 1 = omega (arith, e) in
             record { f = f; is = e′; few = omega (arith, r .few, e); sum = r .sum ∙ ap (sumBelow (stepCount s h)) e′; low = r .within f e′; high = omega (arith, r .reached, n) }
 
-module _ (s : List ℤ) (h : Header) (i k : ℕ) (c : Cursor) (z : Ready s h) (w : Walk s h i k c) (l : i < h .steps)
+module _ (s : List ℤ) (h : Header) (i k : ℕ) (c : Cursor) (z : FlowsGood s h) (w : Walk s h i k c) (l : i < h .steps)
     {d : Cursor} (ed : d ≡ moved s h c i) {base m : ℕ} (eb : base ≡ firstStep h) (em : m ≡ number s (base + i) 4) where
   count-is : m ≡ routeCount s h i
   count-is = em ∙ rw eb
@@ -143,7 +143,7 @@ module _ (s : List ℤ) (h : Header) (i k : ℕ) (c : Cursor) (z : Ready s h) (w
   pub end-inside : k + m ≤ h .routes
   end-inside = omega (arith, w .at, count-is, sum-more (routeCount s h) i, sum-mono (routeCount s h) (i + 1) (h .steps) (omega arith), covers-routes s h (z .groups))
 
-  pub at-step : At s h i (d .last) k (k + m)
+  pub at-step : StepAt s h i (d .last) k (k + m)
   at-step =
       let x = now-at in
       let start : flow s h (x .f) .w0 ≡ sumBelow (stepCount s h) (x .f) = flow-start s h (x .f) (z .flows (x .f) (x .few)) in
@@ -181,7 +181,7 @@ module _ (s : List ℤ) (h : Header) (i k : ℕ) (c : Cursor) (z : Ready s h) (w
         both j b (yes p) = w .good j p
         both j b (no n) = x .good j (omega arith) b
 
-pub arrived : (s : List ℤ) (h : Header) (i k : ℕ) (c : Cursor) → Ready s h → Walk s h i k c → h .steps ≤ i → k ≡ firstFail (goodRoute s h) 0 (h .routes)
+pub arrived : (s : List ℤ) (h : Header) (i k : ℕ) (c : Cursor) → FlowsGood s h → Walk s h i k c → h .steps ≤ i → k ≡ firstFail (goodRoute s h) 0 (h .routes)
 arrived s h i k c z w l =
     let e : k ≡ h .routes = w .at ∙ ap (sumBelow (routeCount s h)) (omega (arith, w .here)) ∙ covers-routes s h (z .groups) in
     fail-none (goodRoute s h) (h .routes) k (omega (arith, e)) (omega (arith, e)) (w .good)

@@ -15,7 +15,7 @@ use Rattle.records.specs.Flows.{goodFlow, goodStep, goodRoute, routesEnd, steps
 use Rattle.sheet_flows.specs.declared.Cursor.{Cursor}
 
 -- what is known before the routes are scanned
-pub record Ready (s : List ℤ) (h : Header) : Type 0 where
+pub record FlowsGood (s : List ℤ) (h : Header) : Type 0 where
   pub sized : Sized s h
   pub groups : goodGroups s h ≡ true
   pub flows : (k : ℕ) → k < h .flows → goodFlow s h k ≡ true
@@ -27,7 +27,7 @@ moved s h c i = cond (eqb i (c .last)) (record { flows = c .flows + 1; last = c 
 
 -- a cursor that has come to step i: the steps of the first `flows` flows end at `last`, and the last of them starts at or before i
 pub record Room (s : List ℤ) (h : Header) (c : Cursor) (i : ℕ) : Type 0 where
-  pub ready : Ready s h
+  pub ready : FlowsGood s h
   pub here : i < h .steps
   pub few : c .flows ≤ h .flows
   pub sum : c .last ≡ sumBelow (stepCount s h) (c .flows)
@@ -35,7 +35,7 @@ pub record Room (s : List ℤ) (h : Header) (c : Cursor) (i : ℕ) : Type 0 wher
   pub within : (f : ℕ) → c .flows ≡ f + 1 → sumBelow (stepCount s h) f ≤ i
 
 -- step i, where the steps of its flow end, and where its routes start and end
-pub record At (s : List ℤ) (h : Header) (i last first end : ℕ) : Type 0 where
+pub record StepAt (s : List ℤ) (h : Header) (i last first end : ℕ) : Type 0 where
   pub here : i < h .steps
   pub starts : first ≡ routeStartOf (step s h i)
   pub ends : end ≡ routesEnd s h i

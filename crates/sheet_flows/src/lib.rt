@@ -7,7 +7,7 @@ ghost use Rattle.words.specs.Record.{number};
 ghost use Rattle.layout.specs.Sized.{Sized};
 ghost use Rattle.layout.specs.Groups.{goodGroups};
 ghost use Rattle.records.specs.Flows.{goodFlow, goodRoute};
-ghost use Rattle.sheet_flows.specs.Routes.{moved, Room, Ready, At, Stretch};
+ghost use Rattle.sheet_flows.specs.Routes.{moved, Room, FlowsGood, StepAt, Stretch};
 use layout::Header;
 use layout::place;
 use records::good_route_of;
@@ -36,7 +36,7 @@ pub fn check_flows(s: &[i64], h: Header) -> usize
 
 // The routes from `first` to `end`, which are those of step i; `last` is where the steps of its flow end.
 fn check_group(s: &[i64], h: Header, i: usize, last: usize, first: usize, end: usize) -> usize
-    requires { ⌜ Ready (now s) h × At (now s) h i last first end ⌝ }
+    requires { ⌜ FlowsGood (now s) h × StepAt (now s) h i last first end ⌝ }
     ensures { λ k. ⌜ Stretch (now (s .entry)) h first end k ⌝ }
 {
     let mut k = first;
@@ -73,7 +73,7 @@ fn advance(s: &[i64], h: Header, c: Cursor, i: usize) -> Cursor
 }
 
 pub fn check_routes(s: &[i64], h: Header) -> usize
-    requires { ⌜ Ready (now s) h ⌝ }
+    requires { ⌜ FlowsGood (now s) h ⌝ }
     ensures { λ k. ⌜ k ≡ firstFail (goodRoute (now (s .entry)) h) 0 (h .routes) ⌝ }
 {
     let base = h.first_step();

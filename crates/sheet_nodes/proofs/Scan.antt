@@ -12,9 +12,9 @@ use Rattle.signed.specs.Words.{bounded}
 use Rattle.signed.proofs.Bounds.{read-small}
 use Rattle.item.specs.declared.Item.{Item}
 use Rattle.node.specs.declared.Given.{Given}
-use Rattle.node.specs.declared.Found.{Found}
-use Rattle.node.specs.Rows.{Row, rowOf}
-use Rattle.node.specs.Judged.{fits, bad, keep, judged}
+use Rattle.node.specs.declared.Judgement.{Judgement}
+use Rattle.node.specs.Rows.{Row, rowOf, fits}
+use Rattle.node.specs.Judged.{bad, keep, judged}
 use Rattle.node.proofs.OneKind.{withFact, fact-unread}
 
 -- a fact is read by a fact node alone
@@ -34,10 +34,10 @@ pub judged-good : (r : Row) (g : Given) → judged r g .good ≡ fits r g
 unfolding judged keep
 judged-good r g = go (fits r g)
   where
-    go : (b : Bool) → cond {A = Found} b (record { good = true; item = r .gives g }) bad .good ≡ b
+    go : (b : Bool) → cond {A = Judgement} b (record { good = true; item = r .gives g }) bad .good ≡ b
     go true = refl
     go false = refl
 
 pub judged-item : (r : Row) (g : Given) → fits r g ≡ true → judged r g .item ≡ r .gives g
 unfolding judged keep
-judged-item r g e = ap (λ (b : Bool). cond {A = Found} b (record { good = true; item = r .gives g }) bad .item) e
+judged-item r g e = ap (λ (b : Bool). cond {A = Judgement} b (record { good = true; item = r .gives g }) bad .item) e

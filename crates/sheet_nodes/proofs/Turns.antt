@@ -13,7 +13,7 @@ use native.Mathlib.Omega.{arith}
 use native.Mathlib.Decide.{ℕ-discrete, decLt}
 use borrow.Author.Tests.{lt-ltb, le-ltb, ltb-true}
 use Rattle.tables.specs.Scan.{anyBelow}
-use Rattle.tables.specs.Table.{marked}
+use Rattle.tables.specs.Inner.{marked}
 use Rattle.tables.specs.Lists.{has, allOf, distinct, pick}
 use Rattle.tables.proofs.Bools.{and-left, or-assoc}
 use Rattle.tables.proofs.Scans.{any-zero, below-suc}
@@ -26,11 +26,11 @@ use Rattle.layout.specs.declared.Header.{Header}
 use Rattle.item.specs.declared.Item.{Item}
 use Rattle.item.specs.Items.{none, Small}
 use Rattle.node.specs.declared.Given.{Given}
-use Rattle.node.specs.declared.Found.{Found}
+use Rattle.node.specs.declared.Judgement.{Judgement}
 use Rattle.node.specs.declared.Kids.{Kids}
 use Rattle.node.specs.FactTypes.{factTypeOf}
-use Rattle.node.specs.Rows.{rowOf}
-use Rattle.node.specs.Judged.{fits, judged, Ready, kids}
+use Rattle.node.specs.Rows.{rowOf, fits}
+use Rattle.node.specs.Judged.{judged, SmallKids, kids}
 use Rattle.node.proofs.Few.{sort-few}
 use Rattle.records.specs.Facts.{factSort, factItem}
 use Rattle.records.specs.Nodes.{nodeWords, nodeRow, childrenOf, namedFact, givenOf, itemOf, namedByNodes, goodChildren, goodNode}
@@ -51,7 +51,7 @@ type-few (suc zero) t l = omega arith
 type-few (suc (suc zero)) t l = omega arith
 type-few (suc (suc (suc k))) t l = omega arith
 
-fact-few : (s : List ℤ) (h : Header) → Begun s h → (f : ℕ) → namedFact s h f .sort ≤ 129
+fact-few : (s : List ℤ) (h : Header) → Begun s h → (f : ℕ) → namedFact s (h .facts) f .sort ≤ 129
 fact-few s h b f = go (ltb f (h .facts)) refl
   where
     go : (t : Bool) → ltb f (h .facts) ≡ t → cond t (factItem s f) none .sort ≤ 129
@@ -197,12 +197,12 @@ module _ (s : List ℤ) (h : Header) (n : ℕ) {lows highs : List ℤ} {sorts to
         pub tops-inside : (length tops ≡ 1024) × Inside c 1024
         tops-inside = (f .top-long, inside)
 
-        module _ {r : Found} (er : r ≡ judged (rowOf k) (givenBy s h w c lows highs sorts)) where
+        module _ {r : Judgement} (er : r ≡ judged (rowOf k) (givenBy s h w c lows highs sorts)) where
           found-is : r ≡ judged (nodeRow s h n) (givenOf s h (itemOf s h) n)
           found-is = er ∙ rw (given-is, ek, ew)
 
           fits-is : r .good ≡ fits (nodeRow s h n) (givenOf s h (itemOf s h) n)
-          fits-is = ap (λ (x : Found). x .good) found-is ∙ judged-good (nodeRow s h n) (givenOf s h (itemOf s h) n)
+          fits-is = ap (λ (x : Judgement). x .good) found-is ∙ judged-good (nodeRow s h n) (givenOf s h (itemOf s h) n)
 
           good-is : goodNode s h n ≡ r .good
           unfolding goodNode
@@ -217,7 +217,7 @@ module _ (s : List ℤ) (h : Header) (n : ℕ) {lows highs : List ℤ} {sorts to
 
             item-now : r .item ≡ itemOf s h n
             item-now =
-                ap (λ (x : Found). x .item) found-is ∙ judged-item (nodeRow s h n) (givenOf s h (itemOf s h) n) (sym fits-is ∙ q)
+                ap (λ (x : Judgement). x .item) found-is ∙ judged-item (nodeRow s h n) (givenOf s h (itemOf s h) n) (sym fits-is ∙ q)
                 ∙ sym (node-ok s h n good-now .item)
 
             good-all : (j : ℕ) → j < suc n → goodNode s h j ≡ true

@@ -15,7 +15,7 @@ use Rattle.item.specs.declared.Item.{Item}
 use Rattle.item.specs.Items.{none, Small}
 use Rattle.node.specs.declared.Given.{Given}
 use Rattle.node.specs.declared.Kids.{Kids}
-use Rattle.node.specs.Judged.{Ready}
+use Rattle.node.specs.Judged.{SmallKids}
 use Rattle.records.specs.Facts.{goodFact}
 use Rattle.records.specs.Nodes.{namedFact, goodNode}
 use Rattle.sheet_nodes.specs.Arrays.{itemAt, Filled}
@@ -30,7 +30,7 @@ givenBy s h w c lows highs sorts =
       words = w;
       facts = h .facts;
       rules = h .rules;
-      fact = namedFact s h (num (w .w1));
+      fact = namedFact s (h .facts) (num (w .w1));
       x = kidItem lows highs sorts (ltb 0 (c .count)) (c .first);
       y = kidItem lows highs sorts (ltb 1 (c .count)) (c .second);
     }
@@ -55,7 +55,7 @@ pub record Judgeable (s : List ℤ) (h : Header) (w : Words) (c : Kids) (lows hi
   pub begun : Begun s h
   pub long : Long 1024 lows highs sorts
   pub inside : Inside c 1024
-  pub ready : Ready (givenBy s h w c lows highs sorts)
+  pub ready : SmallKids (givenBy s h w c lows highs sorts)
 
 -- what the arrays take of a node
 pub record Storable (n : ℕ) (x : Item) (lows highs : List ℤ) (sorts : List ℕ) : Type 0 where

@@ -6,7 +6,7 @@ ghost use Prim.Native.Nat.{ℕ, suc, _<_, _≤_, max};
 ghost use lib.Dec.{ltb, eqb};
 ghost use lib.ListN.{length, getD, set};
 ghost use Rattle.tables.specs.Scan.{firstFail};
-ghost use Rattle.tables.specs.Table.{marked};
+ghost use Rattle.tables.specs.Inner.{marked};
 ghost use Rattle.signed.specs.Words.{num as wordNumber};
 ghost use Rattle.layout.specs.Header.{firstNode};
 ghost use Rattle.node.specs.Rows.{rowOf};
@@ -17,19 +17,16 @@ ghost use Rattle.sheet_nodes.specs.Steps.{kidItem, givenBy, Inside, Long
 use item::Item;
 use item::span;
 use layout::Header;
-use layout::place;
-use node::Found;
 use node::Given;
+use node::Judgement;
 use node::Kids;
 use node::children;
 use node::judge;
-use records::fact_sort;
+use records::named_fact;
 use signed::num;
 use tables::flag;
 use tables::mark;
 use words::Words;
-use words::number;
-use words::word;
 use words::words_at;
 
 // Whether the children come before node n, have not been named, and are not the same node twice.
@@ -41,26 +38,6 @@ fn linked(named: &[bool], n: usize, c: Kids) -> bool
     let first = (a < n) & !flag(named, a);
     let second = (b < n) & !flag(named, b);
     ((c.count < 1) | first) & ((c.count < 2) | (second & !(b == a)))
-}
-
-// The type and range of the fact that a node names; Bool, 0 to 0, where there is no such fact.
-fn named_fact(s: &[i64], h: Header, f: usize) -> Item
-    requires { ⌜ Begun (now s) h ⌝ }
-    ensures { λ x. ⌜ x ≡ namedFact (now (s .entry)) h f ⌝ }
-{
-    if f < h.facts {
-        let sort = fact_sort(
-            number(s, f, place::FACT_TYPE),
-            number(s, f, place::FACT_SET),
-        );
-        span(
-            sort,
-            word(s, f, place::FACT_MIN),
-            word(s, f, place::FACT_MAX),
-        )
-    } else {
-        span(0, 0, 0)
-    }
 }
 
 // The type and range of child j, where there is such a child.
@@ -78,11 +55,11 @@ fn kid_item(lows: &[i32], highs: &[i32], sorts: &[u16], on: bool, j: usize) -> I
 // The fact that a node of kind number k names; it is looked up where the kind names one.
 fn fact_of(s: &[i64], h: Header, k: usize, f: usize) -> Item
     requires { ⌜ Begun (now s) h ⌝ }
-    ensures { λ x. ⌜ (k ≡ 3 → x ≡ namedFact (now (s .entry)) h f) ⌝ }
+    ensures { λ x. ⌜ (k ≡ 3 → x ≡ namedFact (now (s .entry)) (h .facts) f) ⌝ }
 {
     match k {
         0..=2 => span(0, 0, 0),
-        3 => named_fact(s, h, f),
+        3 => named_fact(s, h.facts, f),
         4.. => span(0, 0, 0),
     }
 }
@@ -97,7 +74,7 @@ fn judge_node(
     lows: &[i32],
     highs: &[i32],
     sorts: &[u16],
-) -> Found
+) -> Judgement
     requires { ⌜ Judgeable (now s) h w c (now lows) (now highs) (now sorts) ⌝ }
     ensures { λ r. ⌜ r ≡ judged (rowOf k) (givenBy (now (s .entry)) h w c (now (lows .entry)) (now (highs .entry)) (now (sorts .entry))) ⌝ }
 {

@@ -10,7 +10,7 @@ use lib.ListN.{length, getD}
 use native.Mathlib.Omega.{arith}
 use native.Mathlib.Decide.{decLt}
 use borrow.Author.Tests.{le-ltb}
-use Rattle.tables.specs.Table.{marked}
+use Rattle.tables.specs.Inner.{marked}
 use Rattle.tables.proofs.Entries.{marked-flags, length-marked}
 use Rattle.layout.specs.declared.Header.{Header}
 use Rattle.records.specs.Nodes.{itemOf}

@@ -9,7 +9,7 @@ use lib.Dec.{leb, eqb}
 use lib.ListN.{getD}
 use native.Mathlib.Omega.{arith}
 use Rattle.tables.specs.Scan.{anyBelow, firstFail}
-use Rattle.tables.specs.Table.{marked}
+use Rattle.tables.specs.Inner.{marked}
 use Rattle.tables.proofs.Bools.{tests, and-no, or-assoc}
 use Rattle.tables.proofs.Scans.{any-more, any-zero, extend-one}
 use Rattle.tables.proofs.Scanned.{fail-at, fail-none}

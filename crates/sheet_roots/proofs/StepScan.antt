@@ -9,7 +9,7 @@ use lib.Dec.{eqb}
 use native.Mathlib.Omega.{arith}
 use Rattle.layout.proofs.Groups.{covers-routes}
 use Rattle.tables.specs.Scan.{anyBelow, sumBelow, firstFail}
-use Rattle.tables.specs.Table.{marked}
+use Rattle.tables.specs.Inner.{marked}
 use Rattle.tables.proofs.Bools.{or-assoc}
 use Rattle.tables.proofs.Scans.{any-more, any-zero, extend-one, sum-zero, sum-more, sum-mono}
 use Rattle.tables.proofs.Scanned.{fail-at, fail-none}

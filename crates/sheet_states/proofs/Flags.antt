@@ -20,14 +20,14 @@ use Rattle.layout.specs.declared.Header.{Header}
 use Rattle.layout.specs.Header.{firstTransition}
 use Rattle.layout.specs.Tables.{entity, transition}
 use Rattle.records.specs.Entities.{goodEntity, goodChange, goodTransition, sameChange, declared}
-use Rattle.sheet_states.specs.Flags.{Small, placeOf, Declared}
+use Rattle.sheet_states.specs.Flags.{SmallChange, placeOf, Declared}
 
 -- a good change has a flag
 few-states : (r : Record) → goodEntity r ≡ true → r .w0 ≤ 16
 unfolding goodEntity
 few-states r p = let q = simp tests at p in q .0 .0 .1
 
-pub small-change : (s : List ℤ) (h : Header) (r : Record) → ((k : ℕ) → k < h .entities → goodEntity (entity s h k) ≡ true) → goodChange s h r ≡ true → Small h r
+pub small-change : (s : List ℤ) (h : Header) (r : Record) → ((k : ℕ) → k < h .entities → goodEntity (entity s h k) ≡ true) → goodChange s h r ≡ true → SmallChange h r
 unfolding goodChange
 small-change s h r g p =
     let q = simp tests at p in
@@ -35,7 +35,7 @@ small-change s h r g p =
     record { entity = q .0 .0; from = omega (arith, q .0 .1); to = omega (arith, q .1) }
 
 -- two records have one flag exactly if they name the same change
-same-place : (h : Header) (q r : Record) → Small h q → Small h r → placeOf q ≡ placeOf r → sameChange q r ≡ true
+same-place : (h : Header) (q r : Record) → SmallChange h q → SmallChange h r → placeOf q ≡ placeOf r → sameChange q r ≡ true
 unfolding sameChange
 same-place h q r a b e =
     let e0 : q .w0 ≡ r .w0 = omega (arith, a, b, e) in
@@ -60,7 +60,7 @@ none s h m t l e =
       good = λ j l. absurd (omega arith);
     })
 
-pub more : (s : List ℤ) (h : Header) (m k : ℕ) (t : List Bool) → Declared s h m k t → goodTransition s h k ≡ true → Small h (transition s h k) → Declared s h m (k + 1) (set t (placeOf (transition s h k)) true)
+pub more : (s : List ℤ) (h : Header) (m k : ℕ) (t : List Bool) → Declared s h m k t → goodTransition s h k ≡ true → SmallChange h (transition s h k) → Declared s h m (k + 1) (set t (placeOf (transition s h k)) true)
 unfolding declared
 more s h m k t d g a =
     record {
@@ -70,7 +70,7 @@ more s h m k t d g a =
       good = extend-one (λ (j : ℕ). goodTransition s h j ≡ true) k (d .good) g;
     }
   where
-    go : (r : Record) → Small h r → Dec (placeOf r ≡ placeOf (transition s h k)) → getD (set t (placeOf (transition s h k)) true) (placeOf r) false ≡ (declared s h k r || sameChange (transition s h k) r)
+    go : (r : Record) → SmallChange h r → Dec (placeOf r ≡ placeOf (transition s h k)) → getD (set t (placeOf (transition s h k)) true) (placeOf r) false ≡ (declared s h k r || sameChange (transition s h k) r)
     go r b (yes e) =
         rw (e, same-place h (transition s h k) r a b (sym e)) (getD-set-same t (placeOf (transition s h k)) true false (omega (arith, a, d .long, d .room)) ∙ sym (or-true (declared s h k r)))
     go r b (no n) =
@@ -86,10 +86,10 @@ module _ (s : List ℤ) (h : Header) (k : ℕ) {m : ℕ} (t : List Bool) (d : De
   unfolding goodTransition
   test = rw (ea, eu, is)
 
-  pub small : ((e : ℕ) → e < h .entities → goodEntity (entity s h e) ≡ true) → (a && b) ≡ true → Small h r
+  pub small : ((e : ℕ) → e < h .entities → goodEntity (entity s h e) ≡ true) → (a && b) ≡ true → SmallChange h r
   small g p = small-change s h r g (sym ea ∙ and-left a b p)
 
-  pub again : {i : ℕ} → Small h r → (a && b) ≡ true → i ≡ placeOf r → Declared s h m (k + 1) (set t i true)
+  pub again : {i : ℕ} → SmallChange h r → (a && b) ≡ true → i ≡ placeOf r → Declared s h m (k + 1) (set t i true)
   again z p e = rw (e, is) (more s h m k t d (sym test ∙ p) (rw is at z))
 
   pub stop : (a && b) ≡ false → goodTransition s h k ≡ false

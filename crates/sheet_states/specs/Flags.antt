@@ -12,7 +12,7 @@ use Rattle.layout.specs.Tables.{entityOf, fromOf, toOf}
 use Rattle.records.specs.Entities.{declared, goodTransition}
 
 -- the record's entity, from and to have a flag
-pub record Small (h : Header) (r : Record) : Type 0 where
+pub record SmallChange (h : Header) (r : Record) : Type 0 where
   pub entity : entityOf r < h .entities
   pub from : fromOf r < 16
   pub to : toOf r < 16
@@ -24,5 +24,5 @@ placeOf r = 256 * entityOf r + 16 * fromOf r + toOf r
 pub record Declared (s : List ℤ) (h : Header) (m k : ℕ) (t : List Bool) : Type 0 where
   pub room : 256 * h .entities ≤ m
   pub long : length t ≡ m
-  pub flags : (r : Record) → Small h r → getD t (placeOf r) false ≡ declared s h k r
+  pub flags : (r : Record) → SmallChange h r → getD t (placeOf r) false ≡ declared s h k r
   pub good : (j : ℕ) → j < k → goodTransition s h j ≡ true

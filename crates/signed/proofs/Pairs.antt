@@ -10,7 +10,8 @@ use lib.IntN.{ℤ, pos}
 use lib.Signed.{ltZ, leZ}
 use borrow.Author.Tests.{not-true}
 use Rattle.signed.specs.Words.{eqZ, maxZ}
-use Rattle.signed.specs.Compare.{holds, Pair, somePair, canHold, canFail}
+use Rattle.signed.specs.Compare.{holds, somePair, canHold, canFail}
+use Rattle.signed.specs.Inner.{Pair}
 use Rattle.signed.proofs.Parts.{Le, Lt, le-true, true-le, true-by, false-by, signs}
 use Rattle.signed.proofs.Order.{le-antisym, le-or-lt, max-left, max-right, max-le}
 use Rattle.signed.proofs.Bounds.{In, in-true, true-in, and-left, and-right}

@@ -1,10 +1,9 @@
 -- The six comparisons of 01, and what a comparison can come to over two ranges of values. Assumes nothing.
-use mathlib.Core.Path.{_≡_}
 use mathlib.Core.Bool.{Bool, true, false, not, _&&_, _||_}
 use Prim.Native.Nat.{ℕ, zero, suc}
 use lib.IntN.{ℤ}
 use lib.Signed.{ltZ, leZ}
-use Rattle.signed.specs.Words.{eqZ, within, maxZ}
+use Rattle.signed.specs.Words.{eqZ, maxZ}
 
 -- 01: operator 0 =, 1 ≠, 2 <, 3 ≤, 4 >, 5 ≥; there is no other
 unfoldable pub holds : ℕ → ℤ → ℤ → Bool
@@ -15,14 +14,6 @@ holds (suc (suc (suc zero))) x y = leZ x y
 holds (suc (suc (suc (suc zero)))) x y = ltZ y x
 holds (suc (suc (suc (suc (suc zero))))) x y = leZ y x
 holds (suc (suc (suc (suc (suc (suc op)))))) x y = false
-
--- x lies in l₁..h₁, y in l₂..h₂, and the comparison of x with y comes to t
-pub record Pair (op : ℕ) (t : Bool) (l₁ h₁ l₂ h₂ : ℤ) : Type 0 where
-  pub x : ℤ
-  pub y : ℤ
-  pub in₁ : within l₁ x h₁ ≡ true
-  pub in₂ : within l₂ y h₂ ≡ true
-  pub so : holds op x y ≡ t
 
 -- whether f, which goes by the order of its two arguments alone, is true of some pair of the two ranges: if of any, then of one of these three
 unfoldable pub somePair : (ℤ → ℤ → Bool) → ℤ → ℤ → ℤ → ℤ → Bool

@@ -12,7 +12,7 @@ use lib.ListN.{length, getD, set, length-set}
 use lib.Dec.{eqb}
 use lib.Seq.{getD-set-same, getD-set-other}
 use borrow.Author.Tests.{eq-eqb, ne-eqb}
-use Rattle.tables.specs.Table.{marked}
+use Rattle.tables.specs.Inner.{marked}
 use Rattle.tables.proofs.Scans.{below-suc}
 
 module _ {A : Type 0} (f : ℕ → A) (d : A) where

@@ -1,3 +1,4 @@
 pub mod Scan
 pub mod Table
 pub mod Lists
+pub mod Inner

@@ -3,7 +3,7 @@ ghost use mathlib.Core.Path.{_≡_};
 ghost use mathlib.Core.Bool.{true, false};
 ghost use lib.IntN.{pos};
 ghost use lib.ListN.{getD};
-ghost use Rattle.tables.specs.Table.{marked};
+ghost use Rattle.tables.specs.Inner.{marked};
 
 pub fn entry(t: &[usize], i: usize) -> usize
     ensures { λ r. ⌜ r ≡ getD (now (t .entry)) i 0 ⌝ }

@@ -10,7 +10,7 @@ use lib.Dec.{leb}
 use lib.IntN.{ℤ}
 use lib.ListN.{length, take, drop}
 use lib.Seq.{take-at, sets, sets-eq}
-use Rattle.answer.specs.Answers.{SmallCount}
+use Rattle.answer.specs.Inner.{SmallCount}
 use Rattle.answer.specs.declared.Count.{Count}
 use Rattle.answer.specs.declared.Count.the-variants.{Is, Refused}
 use Rattle.answer.specs.declared.Refusal.{Refusal}

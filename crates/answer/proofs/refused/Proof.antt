@@ -3,7 +3,7 @@ use borrow.Author.Needs.{needs}
 use native.Mathlib.Omega.{arith}
 use mir.Syntax.{w64}
 use mir.ValLaws.{toZ-ofZ}
-use Rattle.answer.specs.Number.{number-small}
+use Rattle.answer.specs.Inner.{number-small}
 use Rattle.answer.proofs.refused.Statement.{statement}
 use Rattle.answer.proofs.refused.Tie as tie
 

@@ -1,6 +1,6 @@
 -- `causes::admissible` meets its contract. Assumes nothing.
 use Rattle.causes.proofs.Causing.{admissible-as, inadmissible}
-use Rattle.causes.specs.Causes.{wanted}
+use Rattle.causes.specs.Inner.{wanted}
 use borrow.Author.Needs.{needs}
 use Rattle.causes.proofs.admissible.Statement.{statement}
 use Rattle.causes.proofs.admissible.Tie as tie

@@ -1,7 +1,7 @@
 -- `causes::can_cause` meets its contract: none of the operations passed causes the change. Assumes nothing.
 use Rattle.causes.proofs.Causing.{Uncaused, none, passed, more, caused-by, uncaused}
 use Prim.Native.Nat.{_-_}
-use Rattle.causes.specs.Causes.{wanted}
+use Rattle.causes.specs.Inner.{wanted}
 use borrow.Author.Needs.{needs}
 use Rattle.causes.proofs.can_cause.Statement.{statement}
 use Rattle.causes.proofs.can_cause.Tie as tie

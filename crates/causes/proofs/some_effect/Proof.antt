@@ -1,7 +1,7 @@
 -- `causes::some_effect` meets its contract: none of the effects passed is wanted. Assumes nothing.
 use native.Mathlib.Omega.{arith}
 use Prim.Native.Nat.{_-_}
-use Rattle.causes.specs.Causes.{wanted}
+use Rattle.causes.specs.Inner.{wanted}
 use Rattle.causes.proofs.Effects.{Missed, missed-more, outset, held, small, hit, none-hit}
 use borrow.Author.Needs.{needs}
 use Rattle.causes.proofs.some_effect.Statement.{statement}

@@ -3,7 +3,7 @@ use native.Mathlib.Omega.{arith}
 use mathlib.Core.Path.{_∙_}
 use Rattle.signed.proofs.Fit.{back-of}
 use Rattle.facts.proofs.Filled.{Filled, none, more, done}
-use Rattle.facts.specs.Assembled.{taken, assembled}
+use Rattle.facts.specs.Assembled.{valueTaken, assembled}
 use lib.ListN.{getD}
 use lib.IntN.{pos}
 use Prim.Native.Nat.{ℕ, _-_}
@@ -12,7 +12,7 @@ use Rattle.facts.proofs.fill_defaults.Statement.{statement}
 use Rattle.facts.proofs.fill_defaults.Tie as tie
 
 abbrev Inv-loop : tie.InvT-loop
-Inv-loop s values₀ given n k₀ values k = Filled (λ (j : ℕ). taken s j (getD values₀ j (pos 0)) (getD given j (pos 0))) (pos 0) values₀ n k values
+Inv-loop s values₀ given n k₀ values k = Filled (λ (j : ℕ). valueTaken s j (getD values₀ j (pos 0)) (getD given j (pos 0))) (pos 0) values₀ n k values
 
 abbrev μ-loop : tie.MeasureT-loop
 μ-loop s values₀ given n k₀ values k = n - k

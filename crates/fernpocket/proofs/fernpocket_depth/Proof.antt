@@ -7,14 +7,14 @@ use borrow.Author.Needs.{needs}
 use Rattle.fernpocket.proofs.fernpocket_depth.Statement.{statement}
 use Rattle.fernpocket.proofs.fernpocket_depth.Tie as tie
 
-depth-requires : tie.Need-depth-requires
-depth-requires c κs = search needs
+look-up-requires : tie.Need-look-up-requires
+look-up-requires c κs = search needs
 
 of-count-requires : tie.Need-of-count-requires
-of-count-requires c κs = rw (c .depth .ensures) (depth-small _ _)
+of-count-requires c κs = rw (c .look-up .ensures) (depth-small _ _)
 
 returns : tie.Need-returns
-returns c = c .of-count .ensures ∙ ap countAnswer (rw (back (c .before .before .fits .flow)) at (c .before .depth .ensures))
+returns c = c .of-count .ensures ∙ ap countAnswer (rw (back (c .before .before .fits .flow)) at (c .before .look-up .ensures))
 
 pub fernpocket-depth-spec : {M : Type 1} → statement M
-fernpocket-depth-spec = tie.close (tie.spec depth-requires of-count-requires returns)
+fernpocket-depth-spec = tie.close (tie.spec look-up-requires of-count-requires returns)

@@ -7,14 +7,14 @@ use borrow.Author.Needs.{needs}
 use Rattle.fernpocket.proofs.fernpocket_outcomes.Statement.{statement}
 use Rattle.fernpocket.proofs.fernpocket_outcomes.Tie as tie
 
-outcomes-requires : tie.Need-outcomes-requires
-outcomes-requires c κs = search needs
+look-up-requires : tie.Need-look-up-requires
+look-up-requires c κs = search needs
 
 of-count-requires : tie.Need-of-count-requires
-of-count-requires c κs = rw (c .outcomes .ensures) (outcomes-small _ _)
+of-count-requires c κs = rw (c .look-up .ensures) (outcomes-small _ _)
 
 returns : tie.Need-returns
-returns c = c .of-count .ensures ∙ ap countAnswer (rw (back (c .before .before .fits .operation)) at (c .before .outcomes .ensures))
+returns c = c .of-count .ensures ∙ ap countAnswer (rw (back (c .before .before .fits .operation)) at (c .before .look-up .ensures))
 
 pub fernpocket-outcomes-spec : {M : Type 1} → statement M
-fernpocket-outcomes-spec = tie.close (tie.spec outcomes-requires of-count-requires returns)
+fernpocket-outcomes-spec = tie.close (tie.spec look-up-requires of-count-requires returns)

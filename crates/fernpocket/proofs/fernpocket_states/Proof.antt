@@ -7,14 +7,14 @@ use borrow.Author.Needs.{needs}
 use Rattle.fernpocket.proofs.fernpocket_states.Statement.{statement}
 use Rattle.fernpocket.proofs.fernpocket_states.Tie as tie
 
-states-requires : tie.Need-states-requires
-states-requires c κs = search needs
+look-up-requires : tie.Need-look-up-requires
+look-up-requires c κs = search needs
 
 of-count-requires : tie.Need-of-count-requires
-of-count-requires c κs = rw (c .states .ensures) (states-small _ _)
+of-count-requires c κs = rw (c .look-up .ensures) (states-small _ _)
 
 returns : tie.Need-returns
-returns c = c .of-count .ensures ∙ ap countAnswer (rw (back (c .before .before .fits .entity)) at (c .before .states .ensures))
+returns c = c .of-count .ensures ∙ ap countAnswer (rw (back (c .before .before .fits .entity)) at (c .before .look-up .ensures))
 
 pub fernpocket-states-spec : {M : Type 1} → statement M
-fernpocket-states-spec = tie.close (tie.spec states-requires of-count-requires returns)
+fernpocket-states-spec = tie.close (tie.spec look-up-requires of-count-requires returns)

@@ -7,14 +7,14 @@ use borrow.Author.Needs.{needs}
 use Rattle.fernpocket.proofs.fernpocket_stratum.Statement.{statement}
 use Rattle.fernpocket.proofs.fernpocket_stratum.Tie as tie
 
-stratum-requires : tie.Need-stratum-requires
-stratum-requires c κs = search needs
+look-up-requires : tie.Need-look-up-requires
+look-up-requires c κs = search needs
 
 of-count-requires : tie.Need-of-count-requires
-of-count-requires c κs = rw (c .stratum .ensures) (stratum-small _ _)
+of-count-requires c κs = rw (c .look-up .ensures) (stratum-small _ _)
 
 returns : tie.Need-returns
-returns c = c .of-count .ensures ∙ ap countAnswer (rw (back (c .before .before .fits .rule)) at (c .before .stratum .ensures))
+returns c = c .of-count .ensures ∙ ap countAnswer (rw (back (c .before .before .fits .rule)) at (c .before .look-up .ensures))
 
 pub fernpocket-stratum-spec : {M : Type 1} → statement M
-fernpocket-stratum-spec = tie.close (tie.spec stratum-requires of-count-requires returns)
+fernpocket-stratum-spec = tie.close (tie.spec look-up-requires of-count-requires returns)

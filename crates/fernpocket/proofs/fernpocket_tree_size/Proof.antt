@@ -7,14 +7,14 @@ use borrow.Author.Needs.{needs}
 use Rattle.fernpocket.proofs.fernpocket_tree_size.Statement.{statement}
 use Rattle.fernpocket.proofs.fernpocket_tree_size.Tie as tie
 
-tree-size-requires : tie.Need-tree-size-requires
-tree-size-requires c κs = search needs
+look-up-requires : tie.Need-look-up-requires
+look-up-requires c κs = search needs
 
 of-count-requires : tie.Need-of-count-requires
-of-count-requires c κs = rw (c .tree-size .ensures) (tree-size-small _ _)
+of-count-requires c κs = rw (c .look-up .ensures) (tree-size-small _ _)
 
 returns : tie.Need-returns
-returns c = c .of-count .ensures ∙ ap countAnswer (rw (back (c .before .before .fits .node)) at (c .before .tree-size .ensures))
+returns c = c .of-count .ensures ∙ ap countAnswer (rw (back (c .before .before .fits .node)) at (c .before .look-up .ensures))
 
 pub fernpocket-tree-size-spec : {M : Type 1} → statement M
-fernpocket-tree-size-spec = tie.close (tie.spec tree-size-requires of-count-requires returns)
+fernpocket-tree-size-spec = tie.close (tie.spec look-up-requires of-count-requires returns)

@@ -1,6 +1,6 @@
 -- `listing::step_depth` meets its contract: the greatest depth of its routes. Assumes nothing.
 use Rattle.listing.proofs.Depths.{Scanning, scan-none, scan-more, scan-step, scan-in}
-use Rattle.listing.specs.Depth.{routeDepth}
+use Rattle.listing.specs.Inner.{routeDepth}
 use Prim.Native.Nat.{_-_}
 use mathlib.Core.Logic.{inl, inr, ⊎-elim}
 use native.Mathlib.Omega.{arith}

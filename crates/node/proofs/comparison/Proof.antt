@@ -1,6 +1,7 @@
 -- `node::comparison` meets its contract. Assumes nothing.
 use Rattle.signed.proofs.Fit.{back, back-of}
-use Rattle.node.specs.Judged.{judged, fits}
+use Rattle.node.specs.Rows.{fits}
+use Rattle.node.specs.Judged.{judged}
 use borrow.Author.Needs.{needs}
 use Rattle.node.proofs.comparison.Statement.{statement}
 use Rattle.node.proofs.comparison.Tie as tie

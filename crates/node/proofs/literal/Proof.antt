@@ -1,10 +1,10 @@
 -- `node::literal` meets its contract. Assumes nothing.
 use Rattle.node.proofs.Judged.{accepted, refused, part-in, part-out}
-use Rattle.node.specs.Rows.{literal}
+use Rattle.node.specs.Rows.{literal, fits}
 use borrow.Author.Tests.{le-leb, lt-leb}
 use Rattle.tables.proofs.Bools.{mid-no}
 use Rattle.signed.proofs.Fit.{back, back-of}
-use Rattle.node.specs.Judged.{judged, fits}
+use Rattle.node.specs.Judged.{judged}
 use borrow.Author.Needs.{needs}
 use Rattle.node.proofs.literal.Statement.{statement}
 use Rattle.node.proofs.literal.Tie as tie

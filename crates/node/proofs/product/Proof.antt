@@ -1,10 +1,10 @@
 -- `node::product` meets its contract. Assumes nothing.
 use Rattle.node.proofs.Judged.{accepted, refused, literal-small}
-use Rattle.node.specs.Rows.{product}
+use Rattle.node.specs.Rows.{product, fits}
 use mathlib.Core.Path.{sym, _∙_}
 use Rattle.tables.proofs.Bools.{mid-no}
 use Rattle.signed.proofs.Fit.{back, back-of}
-use Rattle.node.specs.Judged.{judged, fits}
+use Rattle.node.specs.Judged.{judged}
 use borrow.Author.Needs.{needs}
 use Rattle.node.proofs.product.Statement.{statement}
 use Rattle.node.proofs.product.Tie as tie

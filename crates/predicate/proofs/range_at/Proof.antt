@@ -1,5 +1,6 @@
 -- `predicate::range_at` meets its contract. Assumes nothing.
 use Rattle.signed.proofs.Fit.{back-of}
+use Rattle.records.proofs.FactLaws.{good-facts}
 use borrow.Author.Needs.{needs}
 use Rattle.predicate.proofs.range_at.Statement.{statement}
 use Rattle.predicate.proofs.range_at.Tie as tie
@@ -11,7 +12,7 @@ num-requires : tie.Need-num-requires
 num-requires c κs = search needs
 
 named-fact-requires : tie.Need-named-fact-requires
-named-fact-requires c κs = search needs
+named-fact-requires c κs = good-facts (c .before .before .before .pre .0 .0 .accepted .sized) (c .before .before .before .pre .0 .0 .accepted .facts) (c .before .before .before .pre .0 .0 .first)
 
 num-requires-2 : tie.Need-num-requires-2
 num-requires-2 c κs = search needs

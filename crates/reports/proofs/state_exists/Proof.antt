@@ -15,7 +15,7 @@ states-of-requires : tie.Need-states-of-requires
 states-of-requires c κs =
     let at-exists = c .before .before in
     let at-start = at-exists .before in
-    (at-start .pre, named _ (at-exists .exists .ensures) (c .before .if1 .taken) (c .num .ensures))
+    (at-start .pre .sized, named _ (at-exists .exists .ensures) (c .before .if1 .taken) (c .num .ensures))
 
 exists-requires-2 : tie.Need-exists-requires-2
 exists-requires-2 c κs = search needs

@@ -1,10 +1,12 @@
 -- `sheet_nodes::fact_of` meets its contract. Assumes nothing.
+use mathlib.Core.Path.{refl}
+use Rattle.records.proofs.FactLaws.{good-facts}
 use borrow.Author.Needs.{needs}
 use Rattle.sheet_nodes.proofs.fact_of.Statement.{statement}
 use Rattle.sheet_nodes.proofs.fact_of.Tie as tie
 
 named-fact-requires : tie.Need-named-fact-requires
-named-fact-requires c κs = search needs
+named-fact-requires c κs = good-facts (c .before .pre .sized) (c .before .pre .facts) refl
 
 span-requires : tie.Need-span-requires
 span-requires c κs = search needs

@@ -1,8 +1,8 @@
--- `reports::stratum_of` meets its contract: one word of the record. Assumes nothing.
+-- `records::stratum_of` meets its contract: one word of the record. Assumes nothing.
 use Rattle.words.specs.Record.{recordAt}
 use borrow.Author.Needs.{needs}
-use Rattle.reports.proofs.stratum_of.Statement.{statement}
-use Rattle.reports.proofs.stratum_of.Tie as tie
+use Rattle.records.proofs.stratum_of.Statement.{statement}
+use Rattle.records.proofs.stratum_of.Tie as tie
 
 first-rule-requires : tie.Need-first-rule-requires
 first-rule-requires c κs = search needs

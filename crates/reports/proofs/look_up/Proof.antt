@@ -1,12 +1,12 @@
--- `reports::tree_size` meets its contract: by where its climb stops. Assumes nothing.
+-- `reports::look_up` meets its contract: by where its climb stops. Assumes nothing.
 use mathlib.Core.Path.{ap}
 use Rattle.signed.proofs.Fit.{back}
 use Rattle.answer.specs.declared.Count.the-variants.{Is}
 use Rattle.ladder.proofs.ClimbLaws.{stopped, worked}
 use Rattle.reports.proofs.ReportLaws.{asked-one}
 use borrow.Author.Needs.{needs}
-use Rattle.reports.proofs.tree_size.Statement.{statement}
-use Rattle.reports.proofs.tree_size.Tie as tie
+use Rattle.reports.proofs.look_up.Statement.{statement}
+use Rattle.reports.proofs.look_up.Tie as tie
 
 find-requires : tie.Need-find-requires
 find-requires c κs = search needs
@@ -20,8 +20,8 @@ enum-known-h c = search needs
 num-requires : tie.Need-num-requires
 num-requires c κs = search needs
 
-tree-size-requires : tie.Need-tree-size-requires
-tree-size-requires c κs =
+figure-requires : tie.Need-figure-requires
+figure-requires c κs =
     let at-h = c .before .before in
     let at-find = at-h .before .before in
     rw (c .num .ensures) (asked-one _ _ _ (at-find .find .ensures) (at-h .h .given .1))
@@ -30,24 +30,24 @@ returns : tie.Need-returns
 returns c =
     let at-find = c .before .before .before in
     let at-start = at-find .before in
-    stopped _ _ (rw (back (at-start .fits .node)) at (at-find .find .ensures)) (c .before .r .given .1)
+    stopped _ _ (rw (back (at-start .fits .x)) at (at-find .find .ensures)) (c .before .r .given .1)
 
 returns-2 : tie.Need-returns-2
 returns-2 c =
     let at-h = c .before .before .before in
     let at-find = at-h .before .before in
     let at-start = at-find .before in
-    worked _ _ (rw (back (at-start .fits .node)) at (at-find .find .ensures)) (at-h .h .given .1)
-    (ap Is (rw (c .before .num .ensures, back (at-start .fits .node)) at (c .tree-size .ensures)))
+    worked _ _ (rw (back (at-start .fits .x)) at (at-find .find .ensures)) (at-h .h .given .1)
+    (ap Is (rw (c .before .num .ensures, back (at-start .fits .x)) at (c .figure .ensures)))
 
-pub tree-size-spec : {M : Type 1} → statement M
-tree-size-spec =
+pub look-up-spec : {M : Type 1} → statement M
+look-up-spec =
     tie.close
     (tie.spec
     find-requires
     enum-known-r
     enum-known-h
     num-requires
-    tree-size-requires
+    figure-requires
     returns
     returns-2)

@@ -1,10 +1,10 @@
--- `sheet_nodes::named_fact` meets its contract. Assumes nothing.
+-- `records::named_fact` meets its contract. Assumes nothing.
 use borrow.Author.Tests.{lt-ltb, le-ltb}
 use Rattle.signed.proofs.Fit.{back-of}
 use Rattle.records.proofs.FactLaws.{fact-ok}
 use borrow.Author.Needs.{needs}
-use Rattle.sheet_nodes.proofs.named_fact.Statement.{statement}
-use Rattle.sheet_nodes.proofs.named_fact.Tie as tie
+use Rattle.records.proofs.named_fact.Statement.{statement}
+use Rattle.records.proofs.named_fact.Tie as tie
 
 number-requires : tie.Need-number-requires
 number-requires c κs = search needs
@@ -15,8 +15,8 @@ number-requires-2 c κs = search needs
 fact-sort-requires : tie.Need-fact-sort-requires
 fact-sort-requires c κs =
     let at-if1 = c .before .before in
-    let at-start = at-if1 .before .before in
-    rw (c .number2 .ensures) (fact-ok _ _ (at-start .pre .facts _ (at-if1 .if1 .taken)) .bounds .set)
+    let at-start = at-if1 .before in
+    rw (c .number2 .ensures) (fact-ok _ _ (at-start .pre .each _ (at-if1 .if1 .taken)) .bounds .set)
 
 word-requires : tie.Need-word-requires
 word-requires c κs = search needs

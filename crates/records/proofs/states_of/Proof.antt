@@ -1,8 +1,8 @@
--- `reports::states_of` meets its contract: one word of the record. Assumes nothing.
+-- `records::states_of` meets its contract: one word of the record. Assumes nothing.
 use Rattle.words.specs.Record.{recordAt}
 use borrow.Author.Needs.{needs}
-use Rattle.reports.proofs.states_of.Statement.{statement}
-use Rattle.reports.proofs.states_of.Tie as tie
+use Rattle.records.proofs.states_of.Statement.{statement}
+use Rattle.records.proofs.states_of.Tie as tie
 
 first-entity-requires : tie.Need-first-entity-requires
 first-entity-requires c κs = search needs

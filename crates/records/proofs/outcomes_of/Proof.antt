@@ -1,8 +1,8 @@
--- `reports::outcomes_of` meets its contract: one word of the record. Assumes nothing.
+-- `records::outcomes_of` meets its contract: one word of the record. Assumes nothing.
 use Rattle.words.specs.Record.{recordAt}
 use borrow.Author.Needs.{needs}
-use Rattle.reports.proofs.outcomes_of.Statement.{statement}
-use Rattle.reports.proofs.outcomes_of.Tie as tie
+use Rattle.records.proofs.outcomes_of.Statement.{statement}
+use Rattle.records.proofs.outcomes_of.Tie as tie
 
 first-operation-requires : tie.Need-first-operation-requires
 first-operation-requires c κs = search needs
