@@ -86,7 +86,8 @@ module _ {s : List ℤ} {h : Header} {facts verdicts states : List ℤ} {p o : �
 -- ---- the states afterwards
 
 module _ (s : List ℤ) (h : Header) (facts verdicts states : List ℤ) (p o : ℕ) where
-  pub outcome-states : (j : ℕ) → attempted s h facts verdicts states p o ≡ Is j → attemptedStates s h facts verdicts states p o ≡ applied s h states o j
+  pub outcome-states : (j : ℕ) → attempted s h facts verdicts states p o ≡ Is j
+      → attemptedStates s h facts verdicts states p o ≡ applied s h states o j
   unfolding attemptedStates statesAfter
   outcome-states j e = rw e
 
@@ -139,7 +140,8 @@ module _ {s : List ℤ} {h : Header} {facts verdicts states : List ℤ} {p o : �
 -- ---- what the code finds: b is whether the persona is allowed, t whether the precondition is true, x the choice
 
 module _ (s : List ℤ) (h : Header) (t : Bool) (states : List ℤ) (p o : ℕ) where
-  refused : (r : Refusal) → attemptedIf s h t states p o ≡ Refused r → (Refused r ≡ attemptedIf s h t states p o) × (states ≡ attemptedStatesIf s h t states p o)
+  refused : (r : Refusal) → attemptedIf s h t states p o ≡ Refused r
+      → (Refused r ≡ attemptedIf s h t states p o) × (states ≡ attemptedStatesIf s h t states p o)
   unfolding attemptedStatesIf statesAfter
   refused r e = (sym e, rw e)
 
@@ -154,20 +156,21 @@ module _ (s : List ℤ) (h : Header) (t : Bool) (states : List ℤ) (p o : ℕ) 
       pub at-precondition : not t ≡ true → (Refused Precondition ≡ attemptedIf s h t states p o) × (states ≡ attemptedStatesIf s h t states p o)
       at-precondition u = refused Precondition (if-untrue s h t states p o yes-allowed (not-true t u))
 
-      module _ {x : Choice} {end : List ℤ} (u : not t ≡ false) (is-chosen : x ≡ chosen s h states o) (is-performed : end ≡ performed s h states o) where
-        pub at-outcome : (j : ℕ) → x ≡ Outcome j → (Is j ≡ attemptedIf s h t states p o) × (end ≡ attemptedStatesIf s h t states p o)
-        unfolding attemptedStatesIf statesAfter
-        at-outcome j z =
-            let c = sym is-chosen ∙ z in
-            let e = if-went s h t states p o yes-allowed (not-false t u) j c in
-            (sym e, rw e (is-performed ∙ performed-by s h states o j c))
+      module _ {x : Choice} {end : List ℤ} (u : not t ≡ false) (is-chosen : x ≡ chosen s h states o) (is-performed : end ≡ performed s h states o)
+        where
+          pub at-outcome : (j : ℕ) → x ≡ Outcome j → (Is j ≡ attemptedIf s h t states p o) × (end ≡ attemptedStatesIf s h t states p o)
+          unfolding attemptedStatesIf statesAfter
+          at-outcome j z =
+              let c = sym is-chosen ∙ z in
+              let e = if-went s h t states p o yes-allowed (not-false t u) j c in
+              (sym e, rw e (is-performed ∙ performed-by s h states o j c))
 
-        pub at-nothing : x ≡ Nothing → (Refused NoOutcome ≡ attemptedIf s h t states p o) × (end ≡ attemptedStatesIf s h t states p o)
-        unfolding attemptedStatesIf statesAfter
-        at-nothing z =
-            let c = sym is-chosen ∙ z in
-            let e = if-stuck s h t states p o yes-allowed (not-false t u) c in
-            (sym e, rw e (is-performed ∙ performed-not s h states o c))
+          pub at-nothing : x ≡ Nothing → (Refused NoOutcome ≡ attemptedIf s h t states p o) × (end ≡ attemptedStatesIf s h t states p o)
+          unfolding attemptedStatesIf statesAfter
+          at-nothing z =
+              let c = sym is-chosen ∙ z in
+              let e = if-stuck s h t states p o yes-allowed (not-false t u) c in
+              (sym e, rw e (is-performed ∙ performed-not s h states o c))
 
 -- an attempt with t is the attempt over facts and verdicts; the precondition matters only where the persona is allowed
 module _ (s : List ℤ) (h : Header) (facts verdicts states : List ℤ) (p o : ℕ) {r : Count} {end : List ℤ} {t : Bool}
@@ -181,7 +184,8 @@ module _ (s : List ℤ) (h : Header) (facts verdicts states : List ℤ) (p o : �
       same (inl a) = let k : t ≡ truth s h facts verdicts (precondition s h o) = rw a at e in rw k
       same (inr a) = if-barred s h t states p o a ∙ sym (if-barred s h (truth s h facts verdicts (precondition s h o)) states p o a)
 
-      go : (allowed s h o p ≡ true) ⊎ (allowed s h o p ≡ false) → (r ≡ attempted s h facts verdicts states p o) × (end ≡ attemptedStates s h facts verdicts states p o)
+      go : (allowed s h o p ≡ true) ⊎ (allowed s h o p ≡ false)
+          → (r ≡ attempted s h facts verdicts states p o) × (end ≡ attemptedStates s h facts verdicts states p o)
       go a = (is-answer ∙ same a, is-end ∙ ap (statesAfter s h states o) (same a))
 
 -- b is whether the persona is allowed, r whether the precondition is true

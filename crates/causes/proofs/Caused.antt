@@ -56,7 +56,8 @@ module _ {s : List ℤ} {h : Header} {facts verdicts states : List ℤ} {p o : �
     pub could-be-true : canBeTrue s h o ≡ true
     unfolding canBeTrue
     could-be-true =
-        true-in _ _ _ (true-in-range s h facts verdicts (w .ready .accepted) (w .known) (w .judged) (operation s h o .w1) (operation-ok (w .ready .accepted) o (w .ready .exists) .node) (went-so j q .truth))
+        true-in _ _ _ (true-in-range s h facts verdicts (w .ready .accepted) (w .known) (w .judged) (operation s h o .w1)
+        (operation-ok (w .ready .accepted) o (w .ready .exists) .node) (went-so j q .truth))
 
     -- each effect that was applied is one that S3a and S4 say the persona can cause
     module _ (n e : ℕ) (m : Moves s h states o j n e) where
@@ -73,7 +74,9 @@ module _ {s : List ℤ} {h : Header} {facts verdicts states : List ℤ} {p o : �
       pub applied-caused : canCause s h p n (effect s h e .w1) (effect s h e .w2) ≡ true
       unfolding canCause causes leads
       applied-caused =
-          let f = some-of s h o (leads n (effect s h e .w1) (effect s h e .w2)) (w .ready .accepted) (w .ready .exists) e (record { of = m .of; passes = simp tests (starts, refl) }) in
+          let f =
+          some-of s h o (leads n (effect s h e .w1) (effect s h e .w2)) (w .ready .accepted) (w .ready .exists) e
+          (record { of = m .of; passes = simp tests (starts, refl) }) in
           any-of (causes s h p n (effect s h e .w1) (effect s h e .w2)) (h .operations) o (w .ready .exists) (simp tests (applied-admissible, f))
 
   -- a state that an attempt changes from a to b: S3a and S4 say yes of it for that persona
@@ -88,7 +91,8 @@ module _ {s : List ℤ} {h : Header} {facts verdicts states : List ℤ} {p o : �
           let c = changes (w .ready) n l (λ z. x (sym ea ∙ sym (ap num z) ∙ ap (λ (t : List ℤ). present t n) (sym same) ∙ eb)) in
           along (c .0) (c .1) (c .2) q same
         where
-          along : (i e : ℕ) → Changed s h states o i n e → attempted s h facts verdicts states p o ≡ Is j → attemptedStates s h facts verdicts states p o ≡ performed s h states o
+          along : (i e : ℕ) → Changed s h states o i n e → attempted s h facts verdicts states p o ≡ Is j
+              → attemptedStates s h facts verdicts states p o ≡ performed s h states o
               → (admissible s h n a p o ≡ true) × (canCause s h p n a b ≡ true)
           along i e k q same =
               let z : i ≡ j = cc (sym (k .chosen) ∙ went-so j q .chosen) in
@@ -98,9 +102,11 @@ module _ {s : List ℤ} {h : Header} {facts verdicts states : List ℤ} {p o : �
               (rw (← from) (applied-admissible j q n e m), rw (← from, ← to) (applied-caused j q n e m))
 
   -- and a state that is reached stays so
-  pub reached-attempt : (n : ℕ) → n < h .entities → Reached s h n (present states n) → Reached s h n (present (attemptedStates s h facts verdicts states p o) n)
+  pub reached-attempt : (n : ℕ) → n < h .entities → Reached s h n (present states n)
+      → Reached s h n (present (attemptedStates s h facts verdicts states p o) n)
   reached-attempt n l v = go (attempted s h facts verdicts states p o) refl
     where
       go : (r : Count) → attempted s h facts verdicts states p o ≡ r → Reached s h n (present (attemptedStates s h facts verdicts states p o) n)
       go (Refused r) q = rw (refused-states s h facts verdicts states p o r q) v
-      go (Is j) q = rw (outcome-states s h facts verdicts states p o j q, ← performed-by s h states o j (went-so j q .chosen)) (reached-after (w .ready) n l v)
+      go (Is j) q =
+          rw (outcome-states s h facts verdicts states p o j q, ← performed-by s h states o j (went-so j q .chosen)) (reached-after (w .ready) n l v)

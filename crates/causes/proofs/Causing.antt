@@ -30,7 +30,8 @@ module _ {s : List ℤ} {h : Header} (w : Accepted s h) (o : ℕ) (l : o < h .op
   pub node-there : {base node : ℕ} → base ≡ firstOperation h → node ≡ number s (base + o) 1 → node < h .nodes
   node-there b e = rw (node-read b e) (operation-ok w o l .node)
 
-  pub range-read : {base node : ℕ} {v : Bool} → base ≡ firstOperation h → node ≡ number s (base + o) 1 → v ≡ within (itemOf s h node .low) (pos 1) (itemOf s h node .high) → v ≡ canBeTrue s h o
+  pub range-read : {base node : ℕ} {v : Bool} → base ≡ firstOperation h → node ≡ number s (base + o) 1
+      → v ≡ within (itemOf s h node .low) (pos 1) (itemOf s h node .high) → v ≡ canBeTrue s h o
   unfolding canBeTrue
   range-read b e z = z ∙ rw (node-read b e)
 
@@ -45,12 +46,14 @@ module _ (s : List ℤ) (h : Header) (o p n a : ℕ) (x z : Bool) (ex : x ≡ al
   inadmissible q = rw (← ex, ← ez, q)
 
 -- the start from (n, a) need not be looked for where the effect (n, a, b) is
-pub one-scan : {s : List ℤ} {h : Header} → Accepted s h → (o : ℕ) → o < h .operations → (p n a b : ℕ) → (allowed s h o p && canBeTrue s h o && someEffect s h o (leads n a b)) ≡ causes s h p n a b o
+pub one-scan : {s : List ℤ} {h : Header} → Accepted s h → (o : ℕ) → o < h .operations → (p n a b : ℕ)
+    → (allowed s h o p && canBeTrue s h o && someEffect s h o (leads n a b)) ≡ causes s h p n a b o
 unfolding causes admissible
 one-scan {s} {h} w o l p n a b = go (someEffect s h o (leads n a b)) refl
   where
     go : (v : Bool) → someEffect s h o (leads n a b) ≡ v
-        → (allowed s h o p && canBeTrue s h o && someEffect s h o (leads n a b)) ≡ (allowed s h o p && someEffect s h o (leaves n a) && canBeTrue s h o && someEffect s h o (leads n a b))
+        → (allowed s h o p && canBeTrue s h o && someEffect s h o (leads n a b))
+        ≡ (allowed s h o p && someEffect s h o (leaves n a) && canBeTrue s h o && someEffect s h o (leads n a b))
     go true e = rw (leads-leaves w o l n a b e, e) (both (allowed s h o p) (canBeTrue s h o))
       where
         both : (x y : Bool) → (x && y && true) ≡ (x && true && y && true)

@@ -57,7 +57,8 @@ module _ (s : List ℤ) (h : Header) (o : ℕ) (f : Record → Bool) where
       go e (inr t) = t
 
 -- an effect that leads from a state starts from it
-pub leads-leaves : {s : List ℤ} {h : Header} → Accepted s h → (o : ℕ) → o < h .operations → (n a b : ℕ) → someEffect s h o (leads n a b) ≡ true → someEffect s h o (leaves n a) ≡ true
+pub leads-leaves : {s : List ℤ} {h : Header} → Accepted s h → (o : ℕ) → o < h .operations → (n a b : ℕ) → someEffect s h o (leads n a b) ≡ true
+    → someEffect s h o (leaves n a) ≡ true
 unfolding leads
 leads-leaves {s} {h} w o l n a b p =
     let q = some-at s h o (leads n a b) p in
@@ -81,7 +82,8 @@ pub record Missed (s : List ℤ) (f : Record → Bool) (base first end e : ℕ) 
   pub here : e ≤ end
   pub each : (j : ℕ) → first ≤ j → j < e → f (recordAt s (base + j)) ≡ false
 
-pub missed-more : (s : List ℤ) (f : Record → Bool) (base first end e : ℕ) (r : Record) (v : Bool) → Missed s f base first end e → e < end → r ≡ recordAt s (base + e) → v ≡ f r → v ≡ false
+pub missed-more : (s : List ℤ) (f : Record → Bool) (base first end e : ℕ) (r : Record) (v : Bool) → Missed s f base first end e → e < end
+    → r ≡ recordAt s (base + e) → v ≡ f r → v ≡ false
     → Missed s f base first end (e + 1)
 missed-more s f base first end e r v w l q p z = record { order = omega (arith, w .order); here = omega arith; each = λ j a b. go j a b (decLt j e) }
   where
@@ -89,7 +91,8 @@ missed-more s f base first end e r v w l q p z = record { order = omega (arith, 
     go j a b (yes y) = w .each j a y
     go j a b (no x) = let u : j ≡ e = omega arith in rw (u, ← q) (sym p ∙ z)
 
-module _ {s : List ℤ} {h : Header} (a : Accepted s h) (o : ℕ) (l : o < h .operations) (x : Effects) (t : x ≡ effectsOf s h o) (base : ℕ) (b : base ≡ firstEffect h) where
+module _ {s : List ℤ} {h : Header} (a : Accepted s h) (o : ℕ) (l : o < h .operations) (x : Effects) (t : x ≡ effectsOf s h o) (base : ℕ)
+    (b : base ≡ firstEffect h) where
   exists : (e : ℕ) → e < x .end → e < h .effects
   exists e k = omega (arith, end-is s h o x t, operation-ok a o l .end)
 
@@ -104,10 +107,15 @@ module _ {s : List ℤ} {h : Header} (a : Accepted s h) (o : ℕ) (l : o < h .op
     pub outset : Missed s f base (x .first) (x .end) (x .first)
     outset = record { order = omega arith; here = omega (arith, first-is s h o x t, end-is s h o x t); each = λ j p q. absurd (omega arith) }
 
-    pub hit : (e : ℕ) (r : Record) (v : Bool) → Missed s f base (x .first) (x .end) e → e < x .end → r ≡ recordAt s (base + e) → v ≡ f r → v ≡ true → true ≡ someEffect s h o f
+    pub hit : (e : ℕ) (r : Record) (v : Bool) → Missed s f base (x .first) (x .end) e → e < x .end → r ≡ recordAt s (base + e) → v ≡ f r → v ≡ true
+        → true ≡ someEffect s h o f
     hit e r v w k q p z =
-        sym (some-of s h o f a l e (record { of = record { low = omega (arith, w .order, first-is s h o x t); high = omega (arith, end-is s h o x t) }; passes = rw (q, b) at (sym p ∙ z) }))
+        sym (some-of s h o f a l e (record {
+          of = record { low = omega (arith, w .order, first-is s h o x t); high = omega (arith, end-is s h o x t) };
+          passes = rw (q, b) at (sym p ∙ z);
+        }))
 
     pub none-hit : (e : ℕ) → Missed s f base (x .first) (x .end) e → x .end ≤ e → false ≡ someEffect s h o f
     none-hit e w k =
-        sym (some-none s h o f (λ j u. true-false (u .passes) (rw b at (w .each j (omega (arith, u .of .low, first-is s h o x t)) (omega (arith, u .of .high, end-is s h o x t))))))
+        sym (some-none s h o f (λ j u. true-false (u .passes)
+        (rw b at (w .each j (omega (arith, u .of .low, first-is s h o x t)) (omega (arith, u .of .high, end-is s h o x t))))))

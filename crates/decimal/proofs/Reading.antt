@@ -76,7 +76,8 @@ unfolding runAt
 run-sound [] m at p = ([], refl, refl)
 run-sound (b ∷ bs) m at p = go (goesOn m b) refl (run-sound bs (m * 10 + (b - 48)) (at + 1) (omega arith))
   where
-    go : (t : Bool) → goesOn m b ≡ t → Ran bs (m * 10 + (b - 48)) (at + 1) (runAt (m * 10 + (b - 48)) (at + 1) bs) → Ran (b ∷ bs) m at (cond t (runAt (m * 10 + (b - 48)) (at + 1) bs) (record { magnitude = m; next = at }))
+    go : (t : Bool) → goesOn m b ≡ t → Ran bs (m * 10 + (b - 48)) (at + 1) (runAt (m * 10 + (b - 48)) (at + 1) bs)
+        → Ran (b ∷ bs) m at (cond t (runAt (m * 10 + (b - 48)) (at + 1) bs) (record { magnitude = m; next = at }))
     go true e ih =
         let range = goes-on-range m b e in
         let grown : digits (m * 10 + (b - 48)) ≡ digits m ++ (b ∷ []) =
@@ -109,7 +110,8 @@ bounded-sound l at r h = go (eqb (r .magnitude) 0 || ltb M (r .magnitude)) refl
         (ltb-false M (r .magnitude) (parts .1), h (omega (arith, eqb-false (r .magnitude) 0 (parts .0))))
 
 -- a run that starts with another digit than zero
-start-sound : (b : ℕ) (bs : List ℕ) (at : ℕ) → eqb b 48 ≡ false → 0 < runAt 0 at (b ∷ bs) .magnitude → Taken (b ∷ bs) at (runAt 0 at (b ∷ bs) .next) (digits (runAt 0 at (b ∷ bs) .magnitude))
+start-sound : (b : ℕ) (bs : List ℕ) (at : ℕ) → eqb b 48 ≡ false → 0 < runAt 0 at (b ∷ bs) .magnitude
+    → Taken (b ∷ bs) at (runAt 0 at (b ∷ bs) .next) (digits (runAt 0 at (b ∷ bs) .magnitude))
 unfolding runAt
 start-sound b bs at other = go (goesOn 0 b) refl
   where
@@ -224,7 +226,8 @@ word-plain : (xs : List ℕ) (b : ℕ) (bs : List ℕ) (at : ℕ) → xs ≡ b �
 unfolding wordAt
 word-plain xs b bs at p q = rw (p, ne-eqb b 45 (λ e. omega (arith, digit-range b q .0)))
 
-pub word-complete : (v : ℤ) (at e : ℕ) (l : List ℕ) → hasText v ≡ true → isDigit e ≡ false → wordAt at (decimal v ++ e ∷ l) ≡ IsWord v (at + length (decimal v))
+pub word-complete : (v : ℤ) (at e : ℕ) (l : List ℕ) → hasText v ≡ true → isDigit e ≡ false
+    → wordAt at (decimal v ++ e ∷ l) ≡ IsWord v (at + length (decimal v))
 unfolding decimal sign hasText wordAt positiveWord negativeWord
 word-complete (pos n) at e l h q =
     let head = digits-head n in
@@ -240,7 +243,8 @@ word-of : Word → ℤ
 word-of (IsWord v next) = v
 word-of NoWord = pos 0
 
-pub decimal-unique : (v w : ℤ) (e : ℕ) (xs ys : List ℕ) → hasText v ≡ true → hasText w ≡ true → isDigit e ≡ false → decimal v ++ e ∷ xs ≡ decimal w ++ e ∷ ys → (v ≡ w) × (xs ≡ ys)
+pub decimal-unique : (v w : ℤ) (e : ℕ) (xs ys : List ℕ) → hasText v ≡ true → hasText w ≡ true → isDigit e ≡ false
+    → decimal v ++ e ∷ xs ≡ decimal w ++ e ∷ ys → (v ≡ w) × (xs ≡ ys)
 unfolding word-of
 decimal-unique v w e xs ys hv hw q s =
     let read : IsWord v (0 + length (decimal v)) ≡ IsWord w (0 + length (decimal w)) =
@@ -294,7 +298,10 @@ closed-sound text at end (IsWord v next) h = go (ltb next (length text) && eqb (
         let parts = and-eq-true-iff (ltb next (length text)) (eqb (getD text next 0) end) .0 e in
         let inside : next < length text = ltb-true next (length text) (parts .0) in
         let rest : h .1 .rest ≡ drop next text =
-        sym (drop-append-seam (decimal v) (h .1 .rest)) ∙ ap (drop (length (decimal v))) (sym (h .1 .split)) ∙ drop-drop (length (decimal v)) at text ∙ ap (λ (k : ℕ). drop k text) (sym (h .1 .place)) in
+        sym (drop-append-seam (decimal v) (h .1 .rest))
+        ∙ ap (drop (length (decimal v))) (sym (h .1 .split))
+        ∙ drop-drop (length (decimal v)) at text
+        ∙ ap (λ (k : ℕ). drop k text) (sym (h .1 .place)) in
         let ended : drop next text ≡ end ∷ drop (next + 1) text =
         rw (add-one, ← eqb-true (getD text next 0) end (parts .1)) (drop-cons text next 0 inside) in
         record {
@@ -311,11 +318,13 @@ unfolding fieldAt
 field-sound text at end v next e =
     subst (FieldWord text at end) e (closed-sound text at end (wordAt at (drop at text)) (word-sound (drop at text) at))
 
-pub closed-complete : (text : List ℕ) (end : ℕ) (v : ℤ) (next : ℕ) → next < length text → getD text next 0 ≡ end → closedWord text end (IsWord v next) ≡ IsWord v (next + 1)
+pub closed-complete : (text : List ℕ) (end : ℕ) (v : ℤ) (next : ℕ) → next < length text → getD text next 0 ≡ end
+    → closedWord text end (IsWord v next) ≡ IsWord v (next + 1)
 unfolding closedWord
 closed-complete text end v next p q = rw (lt-ltb next (length text) p, eq-eqb (getD text next 0) end q)
 
-pub field-complete : (text : List ℕ) (at end : ℕ) (v : ℤ) (l : List ℕ) → hasText v ≡ true → isDigit end ≡ false → drop at text ≡ decimal v ++ end ∷ l → fieldAt text at end ≡ IsWord v (at + length (decimal v) + 1)
+pub field-complete : (text : List ℕ) (at end : ℕ) (v : ℤ) (l : List ℕ) → hasText v ≡ true → isDigit end ≡ false → drop at text ≡ decimal v ++ end ∷ l
+    → fieldAt text at end ≡ IsWord v (at + length (decimal v) + 1)
 unfolding fieldAt
 field-complete text at end v l h q e =
     ap (λ (xs : List ℕ). closedWord text end (wordAt at xs)) e

@@ -22,7 +22,8 @@ use Rattle.decimal.proofs.Signed.{fits-word}
 -- ---- a run
 
 module _ (text : List ℕ) (m at : ℕ) where
-  pub run-step : at < length text → goesOn m (getD text at 0) ≡ true → runAt m at (drop at text) ≡ runAt (m * 10 + (getD text at 0 - 48)) (at + 1) (drop (at + 1) text)
+  pub run-step : at < length text → goesOn m (getD text at 0) ≡ true
+      → runAt m at (drop at text) ≡ runAt (m * 10 + (getD text at 0 - 48)) (at + 1) (drop (at + 1) text)
   unfolding runAt
   run-step h e =
       rw (drop-cons text at 0 h, e) (ap (λ (k : ℕ). runAt (m * 10 + (getD text at 0 - 48)) (at + 1) (drop k text)) (sym (add-one at)))

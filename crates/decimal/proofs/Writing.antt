@@ -38,7 +38,8 @@ width-in =
     (λ m d p h ih.
     elim [
       | zero ↦ λ s. absurd (omega arith)
-      | suc k ↦ λ s. omega (arith, ih k (omega (arith, pow-suc 10 (suc k))), ap length (digits-more m d p h), length-append (digits m) ((48 + d) ∷ []))
+      | suc k
+          ↦ λ s. omega (arith, ih k (omega (arith, pow-suc 10 (suc k))), ap length (digits-more m d p h), length-append (digits m) ((48 + d) ∷ []))
     ])
 
 -- and from ten to the power of k on, there are more than k
@@ -102,7 +103,8 @@ lastDigits (suc k) n = lastDigits k (n / 10) ++ ((48 + n % 10) ∷ [])
 length-last : (k n : ℕ) → length (lastDigits k n) ≡ k
 unfolding lastDigits
 length-last zero n = refl
-length-last (suc k) n = length-append (lastDigits k (n / 10)) ((48 + n % 10) ∷ []) ∙ add-one (length (lastDigits k (n / 10))) ∙ ap suc (length-last k (n / 10))
+length-last (suc k) n =
+    length-append (lastDigits k (n / 10)) ((48 + n % 10) ∷ []) ∙ add-one (length (lastDigits k (n / 10))) ∙ ap suc (length-last k (n / 10))
 
 last-more : (k m d : ℕ) → d < 10 → lastDigits (suc k) (m * 10 + d) ≡ lastDigits k m ++ ((48 + d) ∷ [])
 unfolding lastDigits
@@ -117,12 +119,14 @@ pub last-all : (n : ℕ) → lastDigits (length (digits n)) n ≡ digits n
 last-all =
     digit-ind (λ (n : ℕ). lastDigits (length (digits n)) n ≡ digits n)
     (λ d h. rw (digits-one d h) (last-one d h))
-    (λ m d p h ih. rw (digits-more m d p h, length-append, add-one) (last-more (length (digits m)) m d h ∙ ap (λ (xs : List ℕ). xs ++ ((48 + d) ∷ [])) ih))
+    (λ m d p h ih. rw (digits-more m d p h, length-append, add-one)
+    (last-more (length (digits m)) m d h ∙ ap (λ (xs : List ℕ). xs ++ ((48 + d) ∷ [])) ih))
 
 sets-snoc : (xs l : List ℕ) (i d : ℕ) → sets (set l (i + length xs) d) i xs ≡ sets l i (xs ++ (d ∷ []))
 sets-snoc [] l i d = ap (λ (k : ℕ). set l k d) (add-zero i)
 sets-snoc (x ∷ xs) l i d =
-    ap (λ (y : List ℕ). sets y (suc i) xs) (set-comm l (i + suc (length xs)) i d x (λ e. omega arith) ∙ ap (λ (k : ℕ). set (set l i x) k d) (omega arith))
+    ap (λ (y : List ℕ). sets y (suc i) xs)
+    (set-comm l (i + suc (length xs)) i d x (λ e. omega arith) ∙ ap (λ (k : ℕ). set (set l i x) k d) (omega arith))
     ∙ sets-snoc xs (set l i x) (suc i) d
 
 sets-last : (l : List ℕ) (at k n : ℕ) → sets (set l (at + k) (48 + n % 10)) at (lastDigits k (n / 10)) ≡ sets l at (lastDigits (suc k) n)
@@ -132,7 +136,8 @@ sets-last l at k n =
     ∙ sets-snoc (lastDigits k (n / 10)) l at (48 + n % 10)
 
 -- one digit is written at place j - 1, where j are left
-pub put-more : (l : List ℕ) (at j n : ℕ) → 0 < j → sets (set l (at + (j - 1)) (48 + n % 10)) at (lastDigits (j - 1) (n / 10)) ≡ sets l at (lastDigits j n)
+pub put-more : (l : List ℕ) (at j n : ℕ) → 0 < j
+    → sets (set l (at + (j - 1)) (48 + n % 10)) at (lastDigits (j - 1) (n / 10)) ≡ sets l at (lastDigits j n)
 put-more l at j n h = sets-last l at (j - 1) n ∙ ap (λ (k : ℕ). sets l at (lastDigits k n)) (omega arith)
 
 pub put-done : (l : List ℕ) (at j n : ℕ) → j ≤ 0 → sets l at (lastDigits j n) ≡ l
@@ -171,7 +176,9 @@ sets-append (x ∷ xs) ys l i =
     ap (λ (k : ℕ). sets (sets (set l i x) (suc i) xs) k ys) (omega arith) ∙ sets-append xs ys (set l i x) (suc i)
 
 -- the three stores of a field
-pub put-all : (l : List ℕ) (at : ℕ) (z : ℤ) (e : ℕ) → set (sets (sets l at (sign z)) (at + length (sign z)) (digits (natAbs z))) (at + length (sign z) + length (digits (natAbs z))) e ≡ sets l at (decimal z ++ (e ∷ []))
+pub put-all : (l : List ℕ) (at : ℕ) (z : ℤ) (e : ℕ)
+    → set (sets (sets l at (sign z)) (at + length (sign z)) (digits (natAbs z))) (at + length (sign z) + length (digits (natAbs z))) e ≡ sets l
+    at (decimal z ++ (e ∷ []))
 unfolding decimal
 put-all l at z e =
     ap (λ (y : List ℕ). set y (at + length (sign z) + length (digits (natAbs z))) e) (sets-append (sign z) (digits (natAbs z)) l at)

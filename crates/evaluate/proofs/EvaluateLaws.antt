@@ -74,15 +74,18 @@ module _ (s values given : List ℤ) where
   pub assemble-small : SmallStatus (assembleAnswer s values given)
   unfolding assembleRungs
   assemble-small =
-      call-small SmallStatus Refused (λ _. Done) (λ r p. p) s (assembleRungs s values given) (λ h e. rungs-small _ _ _ _ (facts-small h e) tt) (λ h e. tt)
+      call-small SmallStatus Refused (λ _. Done) (λ r p. p) s (assembleRungs s values given) (λ h e. rungs-small _ _ _ _ (facts-small h e) tt)
+      (λ h e. tt)
 
   pub verdicts-small : (room : ℕ) → SmallStatus (verdictsAnswer s values given room)
   unfolding verdictsRungs
   verdicts-small room =
-      call-small SmallStatus Refused (λ _. Done) (λ r p. p) s (verdictsRungs s values given room) (λ h e. rungs-small _ _ _ _ (facts-small h e) tt) (λ h e. tt)
+      call-small SmallStatus Refused (λ _. Done) (λ r p. p) s (verdictsRungs s values given room) (λ h e. rungs-small _ _ _ _ (facts-small h e) tt)
+      (λ h e. tt)
 
   pub operate-small : (states : List ℤ) (p o : ℤ) → SmallCount (operateAnswer s values given states p o)
   unfolding operateRungs
   operate-small states p o =
-      call-small SmallCount NoCount _ (λ r p. p) s (operateRungs s values given states p o) (λ h e. rungs-small _ _ _ _ (facts-small h e) (states-small states h e))
+      call-small SmallCount NoCount _ (λ r p. p) s (operateRungs s values given states p o)
+      (λ h e. rungs-small _ _ _ _ (facts-small h e) (states-small states h e))
       (λ h e. attempt-small (attemptable (asked s values given states p o refl e) refl refl))

@@ -86,10 +86,12 @@ module _ (s : List ℤ) (h : Header) (values given : List ℤ) where
   assembled-at k l = grown-at (λ _ j. value j) (pos 0) (h .facts) k l
 
   -- the default stands where the fact is not given, and only there
-  pub assembled-default : (k : ℕ) → k < h .facts → eqZ (getD given k (pos 0)) (pos 0) ≡ true → getD (assembled s h values given) k (pos 0) ≡ word s k 4
+  pub assembled-default : (k : ℕ) → k < h .facts → eqZ (getD given k (pos 0)) (pos 0) ≡ true
+      → getD (assembled s h values given) k (pos 0) ≡ word s k 4
   assembled-default k l p = assembled-at k l ∙ taken-default s k (getD values k (pos 0)) (getD given k (pos 0)) p
 
-  pub assembled-given : (k : ℕ) → k < h .facts → eqZ (getD given k (pos 0)) (pos 0) ≡ false → getD (assembled s h values given) k (pos 0) ≡ getD values k (pos 0)
+  pub assembled-given : (k : ℕ) → k < h .facts → eqZ (getD given k (pos 0)) (pos 0) ≡ false
+      → getD (assembled s h values given) k (pos 0) ≡ getD values k (pos 0)
   assembled-given k l p = assembled-at k l ∙ taken-value s k (getD values k (pos 0)) (getD given k (pos 0)) p
 
   pub length-assembled : length (assembled s h values given) ≡ h .facts
@@ -102,7 +104,9 @@ module _ (s : List ℤ) (h : Header) (values given : List ℤ) where
   facts-in a e =
       record {
         long = length-assembled;
-        each = λ k l. rw (assembled-at k l) (taken-in s k (getD values k (pos 0)) (getD given k (pos 0)) h a l (none-refused (λ k. factFault s k (getD values k (pos 0)) (getD given k (pos 0))) (h .facts) e k l));
+        each =
+            λ k l. rw (assembled-at k l) (taken-in s k (getD values k (pos 0)) (getD given k (pos 0)) h a l
+            (none-refused (λ k. factFault s k (getD values k (pos 0)) (getD given k (pos 0))) (h .facts) e k l));
       }
 
   -- the place of a fault is a fact's number, which a word holds

@@ -53,7 +53,8 @@ module _ (f : ℕ → Status) where
   pub ended : (n k : ℕ) → Clear f n k → n ≤ k → firstRefused f 0 n ≡ Done
   ended n k c l = all-clear 0 n (λ j a b. c .clear j (omega (arith, c .here)))
 
-  done-case : (i n j : ℕ) (t : Status) → f i ≡ t → i ≤ j → firstRefused f i (suc n) ≡ Done → (suc i ≤ j → firstRefused f (suc i) n ≡ Done → f j ≡ Done) → f j ≡ Done
+  done-case : (i n j : ℕ) (t : Status) → f i ≡ t → i ≤ j → firstRefused f i (suc n) ≡ Done
+      → (suc i ≤ j → firstRefused f (suc i) n ≡ Done → f j ≡ Done) → f j ≡ Done
   done-case i n j Done q a e ih = go (decLt i j)
     where
       go : Dec (i < j) → f j ≡ Done
@@ -77,4 +78,5 @@ module _ (f : ℕ → Status) where
   pub first-by : (P : Status → Type 0) → P Done → (i n : ℕ) → ((j : ℕ) → i ≤ j → j < i + n → P (f j)) → P (firstRefused f i n)
   unfolding firstRefused
   first-by P d i zero h = d
-  first-by P d i (suc n) h = first-case P i n (f i) refl (h i (omega arith) (omega arith)) (first-by P d (suc i) n (λ j a b. h j (omega arith) (omega arith)))
+  first-by P d i (suc n) h =
+      first-case P i n (f i) refl (h i (omega arith) (omega arith)) (first-by P d (suc i) n (λ j a b. h j (omega arith) (omega arith)))

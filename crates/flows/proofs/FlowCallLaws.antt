@@ -43,7 +43,8 @@ unfolding pathLent
 path-unjudged s h f room e = rw (e, pathLent)
 
 -- a flow that exists, with room for its paths
-lent : {s : List ℤ} {h : Header} (f : ℤ) (b : List ℕ) → Accepted s h → exists f (h .flows) ≡ true → pathLent s h f (length b) ≡ true → Lent s h (num f) b
+lent : {s : List ℤ} {h : Header} (f : ℤ) (b : List ℕ) → Accepted s h → exists f (h .flows) ≡ true → pathLent s h f (length b) ≡ true
+    → Lent s h (num f) b
 lent {s} {h} f b a e p =
     record { sheet = a; flow = ltb-true _ _ e; room = leb-true _ _ (sym (path-judged s h f (length b) e) ∙ p) }
 
@@ -57,7 +58,8 @@ flow-lent s f b e q =
     lent f b (opened-at s refl (w .sheet) .sheet) (g .numbers) (g .lengths)
 
 -- a run, of the ladder
-pub going : (s values given states : List ℤ) (f : ℤ) (b : List ℕ) {h : Header} {x : Climbed} → x ≡ runClimb s values given states f (length b) → x ≡ At h
+pub going : (s values given states : List ℤ) (f : ℤ) (b : List ℕ) {h : Header} {x : Climbed} → x ≡ runClimb s values given states f (length b)
+    → x ≡ At h
     → LentRun s h values given states (num f) b
 unfolding runRungs
 going s values given states f b {h} e q =

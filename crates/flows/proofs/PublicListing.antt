@@ -51,13 +51,19 @@ module _ {s : List ℤ} {h : Header} {f : ℤ} {b : List ℕ} (u : Listable s h 
   -- so a public call is the call below the ladder
   call-below : (c : List ℕ) → length c ≡ length b → (k : Call) → publicCall s f c k ≡ called s h (num f) c k
   unfolding publicCall called
-  call-below c e First = rw (climbs (flowRungs s f (length c)) _ _ (u .sheet) (passes c e), climbs (flowRungs s f (length c)) _ _ (u .sheet) (passes c e))
-  call-below c e Next = rw (climbs (flowRungs s f (length c)) _ _ (u .sheet) (passes c e), climbs (flowRungs s f (length c)) _ _ (u .sheet) (passes c e))
+  call-below c e First =
+      rw (climbs (flowRungs s f (length c)) _ _ (u .sheet) (passes c e), climbs (flowRungs s f (length c)) _ _ (u .sheet) (passes c e))
+  call-below c e Next =
+      rw (climbs (flowRungs s f (length c)) _ _ (u .sheet) (passes c e), climbs (flowRungs s f (length c)) _ _ (u .sheet) (passes c e))
 
   -- what is listed, in 01's numbers
   in-numbers : (n : ℕ) (t : State) → Listed s h (num f) b n t → ListedNumbers s h f b n t
   in-numbers n t r =
-      record { holds = r .holds; refused = (λ e. none e (decLt n (count s h (num f))), λ l. rw (r .refused .1 l)); answers = λ l. ap walkAnswer (r .answers l) }
+      record {
+        holds = r .holds;
+        refused = (λ e. none e (decLt n (count s h (num f))), λ l. rw (r .refused .1 l));
+        answers = λ l. ap walkAnswer (r .answers l);
+      }
     where
       none : walkAnswer (t .answer) .refusal ≡ pos 13 → Dec (n < count s h (num f)) → count s h (num f) ≤ n
       none e (yes l) = let z : _≡_ {A = ℤ} (pos 0) (pos 13) = rw (r .answers l) at e in absurd (omega (arith, ap natAbs z))

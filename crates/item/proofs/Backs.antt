@@ -9,7 +9,7 @@ use mir.Val.{toZ, ofZ}
 use Rattle.signed.proofs.Bounds.{small-true}
 use Rattle.signed.proofs.Fit.{back, fits-small}
 use Rattle.item.specs.declared.Item.{Item}
-use Rattle.item.specs.Items.{Small}
+use Rattle.item.specs.Inner.{Small}
 
 pub back-low : (x : Item) → Small x → toZ w64 (ofZ w64 (x .low)) ≡ x .low
 back-low x b = back (fits-small (small-true (x .low) (b .low)))

@@ -2,8 +2,7 @@
 -- Assumes nothing.
 use Prim.Native.Nat.{ℕ}
 use lib.IntN.{ℤ, pos, _+ℤ_, _-ℤ_, _*ℤ_}
-use mathlib.Core.Path.{_≡_}
-use mathlib.Core.Bool.{Bool, true, cond, _&&_}
+use mathlib.Core.Bool.{Bool, cond, _&&_}
 use Rattle.signed.specs.Words.{bounded, minZ, maxZ}
 use Rattle.signed.specs.Compare.{canHold, canFail}
 use Rattle.item.specs.declared.Item.{Item}
@@ -47,8 +46,3 @@ either x y = span 0 (maxZ (x .low) (y .low)) (maxZ (x .high) (y .high))
 -- not: 1−high..1−low
 abbrev pub negation : Item → Item
 negation x = span 0 (pos 1 -ℤ x .high) (pos 1 -ℤ x .low)
-
--- what keeps sums and products within a word
-pub record Small (x : Item) : Type 0 where
-  pub low : bounded (x .low) ≡ true
-  pub high : bounded (x .high) ≡ true

@@ -3,6 +3,7 @@ ghost use mathlib.Core.Path.{_≡_};
 ghost use mathlib.Core.Bool.{true, cond};
 ghost use Rattle.signed.specs.Words.{bounded};
 ghost use Rattle.item.specs.Items as items;
+ghost use Rattle.item.specs.Inner.{Small};
 use signed::bounded;
 use signed::can_fail;
 use signed::can_hold;
@@ -39,28 +40,28 @@ fn choose(b: bool, x: i64, y: i64) -> i64
 }
 
 pub fn sum(x: Item, y: Item) -> Item
-    requires { ⌜ items.Small x × items.Small y ⌝ }
+    requires { ⌜ Small x × Small y ⌝ }
     ensures { λ r. ⌜ r ≡ items.sum x y ⌝ }
 {
     span(x.sort, plus(x.low, y.low), plus(x.high, y.high))
 }
 
 pub fn difference(x: Item, y: Item) -> Item
-    requires { ⌜ items.Small x × items.Small y ⌝ }
+    requires { ⌜ Small x × Small y ⌝ }
     ensures { λ r. ⌜ r ≡ items.difference x y ⌝ }
 {
     span(x.sort, minus(x.low, y.high), minus(x.high, y.low))
 }
 
 pub fn multiple(n: i64, x: Item) -> Item
-    requires { ⌜ (bounded n ≡ true) × items.Small x ⌝ }
+    requires { ⌜ (bounded n ≡ true) × Small x ⌝ }
     ensures { λ r. ⌜ r ≡ items.multiple n x ⌝ }
 {
     span(x.sort, times(x.low, n), times(x.high, n))
 }
 
 pub fn compared(op: usize, x: Item, y: Item) -> Item
-    requires { ⌜ items.Small x × items.Small y ⌝ }
+    requires { ⌜ Small x × Small y ⌝ }
     ensures { λ r. ⌜ r ≡ items.compared op x y ⌝ }
 {
     let fails = can_fail(op, x.low, x.high, y.low, y.high);
@@ -69,21 +70,21 @@ pub fn compared(op: usize, x: Item, y: Item) -> Item
 }
 
 pub fn both(x: Item, y: Item) -> Item
-    requires { ⌜ items.Small x × items.Small y ⌝ }
+    requires { ⌜ Small x × Small y ⌝ }
     ensures { λ r. ⌜ r ≡ items.both x y ⌝ }
 {
     span(0, smaller(x.low, y.low), smaller(x.high, y.high))
 }
 
 pub fn either(x: Item, y: Item) -> Item
-    requires { ⌜ items.Small x × items.Small y ⌝ }
+    requires { ⌜ Small x × Small y ⌝ }
     ensures { λ r. ⌜ r ≡ items.either x y ⌝ }
 {
     span(0, larger(x.low, y.low), larger(x.high, y.high))
 }
 
 pub fn negation(x: Item) -> Item
-    requires { ⌜ items.Small x ⌝ }
+    requires { ⌜ Small x ⌝ }
     ensures { λ r. ⌜ r ≡ items.negation x ⌝ }
 {
     span(0, minus(1, x.high), minus(1, x.low))

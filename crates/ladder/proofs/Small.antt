@@ -40,7 +40,9 @@ checked-low s = ⊎-elim held (λ p. rw (bad-header s p) (omega arith)) (bool-ca
     placed p q (no n) = rw (no-fault s p q (omega arith)) tt
 
     held : goodHeader s ≡ true → Low (checked s)
-    held p = ⊎-elim (λ q. placed p q (decLt (firstBad s (headerOf s)) (records (headerOf s)))) (λ q. rw (bad-group s p q) (omega arith)) (bool-cases (goodGroups s (headerOf s)))
+    held p =
+        ⊎-elim (λ q. placed p q (decLt (firstBad s (headerOf s)) (records (headerOf s)))) (λ q. rw (bad-group s p q) (omega arith))
+        (bool-cases (goodGroups s (headerOf s)))
 
 pub checked-small : (s : List ℤ) → SmallStatus (checked s)
 checked-small s = small (checked s) (checked-low s)

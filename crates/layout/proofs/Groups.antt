@@ -26,7 +26,12 @@ none f owners = record { here = omega arith; is = sym (sum-zero f); small = omeg
 
 pub more : (f : ℕ → ℕ) (owners i sum n : ℕ) → Summed f owners i sum → i < owners → n ≡ f i → n ≤ 1024 → Summed f owners (i + 1) (sum + n)
 more f owners i sum n r l e q =
-    record { here = omega arith; is = rw (sum-more f i, r .is, e); small = omega (arith, r .small); each = extend-one (λ (k : ℕ). f k ≤ 1024) i (r .each) (rw (← e) q) }
+    record {
+      here = omega arith;
+      is = rw (sum-more f i, r .is, e);
+      small = omega (arith, r .small);
+      each = extend-one (λ (k : ℕ). f k ≤ 1024) i (r .each) (rw (← e) q);
+    }
 
 pub all-good : (f : ℕ → ℕ) (owners size i sum : ℕ) → Summed f owners i sum → owners ≤ i → eqb sum size ≡ goodGroup f owners size
 unfolding goodGroup

@@ -156,12 +156,14 @@ path-list s h a f l =
 
 -- ---- terminals and lengths are small
 
-pub last-small : (s : List ℤ) (h : Header) → Accepted s h → {i : ℕ} {p : List ℕ} → PathFrom s h i p → (n : ℕ) → Way s h i n → (d : ℕ) → target s h (lastOf d p) ≤ 2
+pub last-small : (s : List ℤ) (h : Header) → Accepted s h → {i : ℕ} {p : List ℕ} → PathFrom s h i p → (n : ℕ) → Way s h i n → (d : ℕ)
+    → target s h (lastOf d p) ≤ 2
 unfolding lastOf ends target
 last-small s h a (last {r = r} o e) n w d = small-terminal s h a w r o (eq-eqb (route s h r .w0) 1 e)
 last-small s h a (next {r = r} o e k) n w d = let z : ends s h r ≡ false = rw e in last-small s h a k n (way-on s h a w r o z n (omega arith)) r
 
-pub path-small : (s : List ℤ) (h : Header) → Accepted s h → (f : ℕ) → f < h .flows → (p : List ℕ) → PathOf s h f p → (terminal s h p ≤ 2) × (length p ≤ 256)
+pub path-small : (s : List ℤ) (h : Header) → Accepted s h → (f : ℕ) → f < h .flows → (p : List ℕ) → PathOf s h f p
+    → (terminal s h p ≤ 2) × (length p ≤ 256)
 unfolding terminal
 path-small s h a f l p k = (
   last-small s h a k (stepsOf s h f) (way-start s h a f l) 0,

@@ -34,7 +34,8 @@ module _ {path₀ : List ℕ} {from : ℕ} {path : List ℕ} {i : ℕ} (k : Clea
       sym (append-nil path) ∙ (rw (z, take-all i path l) at (k .rest))
 
 -- a path is written from entry i on, and what is past it is cleared
-pub written : (b p : List ℕ) (i n : ℕ) → i + length p ≤ length b → n ≡ i + length p → take n (sets b i p) ++ replicate (length (sets b i p) - n) 0 ≡ laid (take i b ++ p) b
+pub written : (b p : List ℕ) (i n : ℕ) → i + length p ≤ length b → n ≡ i + length p
+    → take n (sets b i p) ++ replicate (length (sets b i p) - n) 0 ≡ laid (take i b ++ p) b
 unfolding laid
 written b p i n l e =
     let z : length (take i b ++ p) ≡ n = length-append (take i b) p ∙ rw (length-take-le i b (omega arith)) (omega arith) in

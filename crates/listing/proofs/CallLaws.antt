@@ -56,9 +56,11 @@ module _ {s : List ℤ} {h : Header} {f : ℕ} {b : List ℕ} (u : Lent s h f b)
   first-arrives =
       let w = started s h f in
       let z = first-way (start-going u) refl in
-      subst (λ (p : List ℕ). arrived (walked s h w p) ≡ walkOf s h p) (sym z) (arrives s h w [] (firstRouteOf s h (w .step)) (firstWay s h (taken s h w (firstRouteOf s h (w .step)))) refl)
+      subst (λ (p : List ℕ). arrived (walked s h w p) ≡ walkOf s h p) (sym z)
+      (arrives s h w [] (firstRouteOf s h (w .step)) (firstWay s h (taken s h w (firstRouteOf s h (w .step)))) refl)
 
-  pub first-done : {w : Walker} {r : Walk} {e : List ℕ} → w ≡ started s h f → r ≡ arrived (walked s h w (firstWay s h w)) → e ≡ laid (take (w .length) b ++ firstWay s h w) b
+  pub first-done : {w : Walker} {r : Walk} {e : List ℕ} → w ≡ started s h f → r ≡ arrived (walked s h w (firstWay s h w))
+      → e ≡ laid (take (w .length) b ++ firstWay s h w) b
       → (r ≡ firstWalk s h f) × (e ≡ firstLaid s h f b)
   unfolding firstWalk firstLaid started
   first-done {w} {r} {e} q x y = (x ∙ rw q (first-arrives ∙ ap (walkOf s h) start-first), y ∙ rw (q, start-first))
@@ -100,7 +102,8 @@ module _ {s : List ℤ} {h : Header} {f : ℕ} {b : List ℕ} {r : Found} (k : S
     turn-arrives : arrived (walked s h (taken s h v (turnRoute b v)) (firstWay s h (taken s h v (turnRoute b v)))) ≡ walkOf s h (turned s h b v)
     unfolding walked turned
     turn-arrives =
-        arrives s h v (take (v .length) b) (turnRoute b v) (firstWay s h (taken s h v (turnRoute b v))) (sym (length-take-le (v .length) b (omega (arith, turn-room))))
+        arrives s h v (take (v .length) b) (turnRoute b v) (firstWay s h (taken s h v (turnRoute b v)))
+        (sym (length-take-le (v .length) b (omega (arith, turn-room))))
 
     turn-laid : laid (take (taken s h v (turnRoute b v) .length) (set b (v .length) (turnRoute b v)) ++ firstWay s h (taken s h v (turnRoute b v))) (set b (v .length) (turnRoute b v)) ≡ laid (turned s h b v) b
     unfolding taken turned

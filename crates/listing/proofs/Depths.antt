@@ -35,7 +35,8 @@ greatest-put r (p ∷ []) l = omega arith
 greatest-put r (p ∷ q ∷ ps) l = rw (greatest-put r (q ∷ ps) (omega arith)) (omega arith)
 
 -- by routes in turn
-greatest-turn : (after : ℕ → List (List ℕ)) (f : ℕ → ℕ) (r n : ℕ) → ((x : ℕ) → r ≤ x → x < r + n → (1 ≤ length (after x)) × (f x ≡ greatest (after x) + 1)) → greatest (inTurn after r n) ≡ maxFrom f r n
+greatest-turn : (after : ℕ → List (List ℕ)) (f : ℕ → ℕ) (r n : ℕ)
+    → ((x : ℕ) → r ≤ x → x < r + n → (1 ≤ length (after x)) × (f x ≡ greatest (after x) + 1)) → greatest (inTurn after r n) ≡ maxFrom f r n
 unfolding inTurn maxFrom greatest
 greatest-turn after f r zero k = refl
 greatest-turn after f r (suc n) k =
@@ -60,7 +61,8 @@ module _ (s : List ℤ) (h : Header) (d : List ℕ) (r : ℕ) where
   route-leads e = rw (e, routeDepth)
 
   -- it is that of the paths after the route, where the table has it for the step that the route leads to
-  route-depth : (ends s h r ≡ false → getD d (target s h r) 0 ≡ greatest (pathsOn s h (target s h r))) → routeDepth s h d r ≡ greatest (pathsAfter s h r) + 1
+  route-depth : (ends s h r ≡ false → getD d (target s h r) 0 ≡ greatest (pathsOn s h (target s h r)))
+      → routeDepth s h d r ≡ greatest (pathsAfter s h r) + 1
   unfolding greatest
   route-depth k =
       ⊎-elim (λ e. route-ends e ∙ rw (onward-ends s h (pathsOn s h) r e))
@@ -68,7 +70,8 @@ module _ (s : List ℤ) (h : Header) (d : List ℕ) (r : ℕ) where
       (bool-cases (ends s h r))
 
 pub step-depth : (s : List ℤ) (h : Header) (a : Accepted s h) (d : List ℕ) {i n : ℕ} (w : Way s h i n)
-    → ((r : ℕ) → RouteOf s h i r → ends s h r ≡ false → getD d (target s h r) 0 ≡ greatest (pathsOn s h (target s h r))) → stepDepth s h d i ≡ greatest (pathsOn s h i)
+    → ((r : ℕ) → RouteOf s h i r → ends s h r ≡ false → getD d (target s h r) 0 ≡ greatest (pathsOn s h (target s h r))) → stepDepth s h d i
+    ≡ greatest (pathsOn s h i)
 unfolding stepDepth
 step-depth s h a d {i} {n} w k =
     sym
@@ -110,7 +113,8 @@ module _ {f : ℕ → ℕ} {first end r most : ℕ} (k : Scanning f first end r 
       omega arith
 
 -- after the scan `most` is the step's depth
-pub scan-step : (s : List ℤ) (h : Header) (d : List ℕ) (i : ℕ) {first many r most : ℕ} → Scanning (routeDepth s h d) first (first + many) r most → first + many ≤ r
+pub scan-step : (s : List ℤ) (h : Header) (d : List ℕ) (i : ℕ) {first many r most : ℕ} → Scanning (routeDepth s h d) first (first + many) r most
+    → first + many ≤ r
     → first ≡ firstRouteOf s h i → many ≡ routesOf s h i → most ≡ stepDepth s h d i
 unfolding stepDepth
 scan-step s h d i {first} {many} k l p q =
@@ -118,7 +122,8 @@ scan-step s h d i {first} {many} k l p q =
     scan-done k l ∙ rw (z, p, q)
 
 -- a step's routes lie in the table
-pub scan-in : (s : List ℤ) (h : Header) → Accepted s h → (i : ℕ) {first many : ℕ} → i < h .steps → first ≡ firstRouteOf s h i → many ≡ routesOf s h i → first + many ≤ h .routes
+pub scan-in : (s : List ℤ) (h : Header) → Accepted s h → (i : ℕ) {first many : ℕ} → i < h .steps → first ≡ firstRouteOf s h i → many ≡ routesOf s h i
+    → first + many ≤ h .routes
 scan-in s h a i l p q = rw (p, q) (step-ends s h a i l)
 
 -- ---- the pass over the flow's steps
@@ -153,7 +158,8 @@ pub deep-none : (s : List ℤ) (h : Header) (first many : ℕ) → Deep s h firs
 deep-none s h first many =
     record { low = omega arith; high = omega arith; size = refl; shallow = shallow-zeros 256; at = λ j p q. absurd (omega arith) }
 
-module _ {s : List ℤ} {h : Header} (a : Accepted s h) (f : ℕ) (l : f < h .flows) {first many : ℕ} (p : first ≡ firstStepOf s h f) (q : many ≡ stepsOf s h f) where
+module _ {s : List ℤ} {h : Header} (a : Accepted s h) (f : ℕ) (l : f < h .flows) {first many : ℕ} (p : first ≡ firstStepOf s h f)
+    (q : many ≡ stepsOf s h f) where
   -- the flow's steps lie in the table, and there are some
   pub deep-end : first + many ≤ h .steps
   deep-end = rw (p, q) (flow-ok s h a f l .inside)

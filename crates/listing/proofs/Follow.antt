@@ -104,7 +104,8 @@ module _ (after : ℕ → List (List ℕ)) where
       ∙ turn-absent (suc r) n x b (⊎-elim (λ (l : x < r). inl (omega arith)) (λ (l : r + suc n ≤ x). inr (omega arith)) o)
 
   -- it begins with the first of the routes
-  turn-here : (r n : ℕ) (b : List ℕ) → following (inTurn after r (suc n)) (r ∷ b) ≡ resolve (r ∷ []) (headOf (inTurn after (suc r) n)) (following (after r) b)
+  turn-here : (r n : ℕ) (b : List ℕ)
+      → following (inTurn after r (suc n)) (r ∷ b) ≡ resolve (r ∷ []) (headOf (inTurn after (suc r) n)) (following (after r) b)
   unfolding inTurn resolve joined
   turn-here r n b =
       follow-append (map (λ p. r ∷ p) (after r)) (inTurn after (suc r) n) (r ∷ b)

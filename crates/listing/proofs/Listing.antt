@@ -92,7 +92,8 @@ module _ {s : List ℤ} {h : Header} {f : ℕ} {b : List ℕ} (u : Lent s h f b)
       let z : min (suc n) (count s h f - 1) ≡ suc n = omega arith in
       let y = then-next n k in
       record {
-        holds = rw (z, e, y, bufferOf) (laid-same (path s h f (suc n)) (laid (path s h f n) b) b (length-laid (path s h f n) b (fits n (omega arith))));
+        holds =
+            rw (z, e, y, bufferOf) (laid-same (path s h f (suc n)) (laid (path s h f n) b) b (length-laid (path s h f n) b (fits n (omega arith))));
         refused = (λ x. absurd (walked-refused s h (path s h f (suc n)) (rw (e, y, answerOf) at x)), λ x. absurd (omega arith));
         answers = λ x. rw (e, y, answerOf);
       }
@@ -140,9 +141,11 @@ module _ {s : List ℤ} {h : Header} {f : ℕ} {b : List ℕ} (u : Lent s h f b)
   unfolding laid
   take-laid p = take-append-seam p (replicate (length b - length p) 0)
 
-  read-path : (k : ℕ) (t : State) (p : List ℕ) → t .answer ≡ walkOf s h p → t .buffer ≡ laid p b → readOff s h f (suc k) t ≡ p ∷ readOff s h f k (called s h f (t .buffer) Next)
+  read-path : (k : ℕ) (t : State) (p : List ℕ) → t .answer ≡ walkOf s h p → t .buffer ≡ laid p b
+      → readOff s h f (suc k) t ≡ p ∷ readOff s h f k (called s h f (t .buffer) Next)
   unfolding readOff
-  read-path k t p e z = rw (e, readOff) (ap (λ (q : List ℕ). q ∷ readOff s h f k (called s h f (t .buffer) Next)) (ap (take (length p)) z ∙ take-laid p))
+  read-path k t p e z =
+      rw (e, readOff) (ap (λ (q : List ℕ). q ∷ readOff s h f k (called s h f (t .buffer) Next)) (ap (take (length p)) z ∙ take-laid p))
 
   read-refused : (k : ℕ) (t : State) → t .answer ≡ Refused LastPath → readOff s h f (suc k) t ≡ []
   unfolding readOff
@@ -154,10 +157,13 @@ module _ {s : List ℤ} {h : Header} {f : ℕ} {b : List ℕ} (u : Lent s h f b)
   read-listed (suc k) n t r p q =
       go (decLt n (count s h f)) (λ m. read-listed k (suc n) (called s h f (t .buffer) Next) (next-listed n t r) m (omega arith))
     where
-      go : Dec (n < count s h f) → (suc n ≤ count s h f → readOff s h f k (called s h f (t .buffer) Next) ≡ drop (suc n) (paths s h f)) → readOff s h f (suc k) t ≡ drop n (paths s h f)
+      go : Dec (n < count s h f) → (suc n ≤ count s h f → readOff s h f k (called s h f (t .buffer) Next) ≡ drop (suc n) (paths s h f))
+          → readOff s h f (suc k) t ≡ drop n (paths s h f)
       go (yes m) rest =
           let z : min n (count s h f - 1) ≡ n = omega arith in
-          read-path k t (path s h f n) (r .answers m) (rw z at (r .holds)) ∙ ap (λ (q : List (List ℕ)). path s h f n ∷ q) (rest m) ∙ sym (drop-cons (paths s h f) n [] m)
+          read-path k t (path s h f n) (r .answers m) (rw z at (r .holds))
+          ∙ ap (λ (q : List (List ℕ)). path s h f n ∷ q) (rest m)
+          ∙ sym (drop-cons (paths s h f) n [] m)
       go (no m) rest = read-refused k t (r .refused .1 (omega arith)) ∙ sym (drop-of-length-le (paths s h f) {i = n} (omega arith))
 
   -- the paths read off the buffer are the flow's list of paths

@@ -53,7 +53,8 @@ module _ (after : ℕ → List (List ℕ)) where
   mem-turn r zero x p l k m = absurd (omega arith)
   mem-turn r (suc n) x p l k m = go (ℕ-discrete r x) (λ q. mem-turn (suc r) n x p q (omega arith) m)
     where
-      go : Dec (r ≡ x) → (suc r ≤ x → List·Memᴰ (x ∷ p) (inTurn after (suc r) n)) → List·Memᴰ (x ∷ p) (map (λ p. r ∷ p) (after r) ++ inTurn after (suc r) n)
+      go : Dec (r ≡ x) → (suc r ≤ x → List·Memᴰ (x ∷ p) (inTurn after (suc r) n))
+          → List·Memᴰ (x ∷ p) (map (λ p. r ∷ p) (after r) ++ inTurn after (suc r) n)
       go (yes e) z = rw e (Memᴰ·append-left (inTurn after (suc x) n) (mem-put x p (after x) m))
       go (no e) z = Memᴰ·append-right (map (λ p. r ∷ p) (after r)) (z (omega arith))
 
@@ -69,7 +70,8 @@ ordered-put r none = none
 ordered-put r (more {p = p} {ps = ps} k o) =
     more (λ q m. let z = put-mem r q ps m in subst (Before (r ∷ p)) (sym (z .is)) (later (k (z .rest) (z .mem)))) (ordered-put r o)
 
-ordered-append : {ps qs : List (List ℕ)} → Ordered ps → Ordered qs → ((p q : List ℕ) → List·Memᴰ p ps → List·Memᴰ q qs → Before p q) → Ordered (ps ++ qs)
+ordered-append : {ps qs : List (List ℕ)} → Ordered ps → Ordered qs → ((p q : List ℕ) → List·Memᴰ p ps → List·Memᴰ q qs → Before p q)
+    → Ordered (ps ++ qs)
 ordered-append none o k = o
 ordered-append (more {p = p} {ps = ps} l u) o k =
     more (λ q m. ⊎-elim (λ x. l q x) (λ y. k p q (List·Memᴰ·head refl) y) (List·Memᴰ·append-cases ps m))

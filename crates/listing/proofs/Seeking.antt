@@ -83,7 +83,8 @@ module _ {s : List ℤ} {h : Header} {b : List ℕ} {w₀ w : Walker} {turn : Fo
     -- it is one, and m routes of the step come after it
     module _ (o : RouteOf s h (w .step) (routeAt b w)) (m : ℕ) (q : routesEndOf s h (w .step) ≡ suc (routeAt b w) + m) where
       step-on : following (remaining s h w₀) b
-          ≡ resolve (take (suc (w .length)) b) (resolve (take (w .length) b) (turning s h b turn) (headOf (inTurn (pathsAfter s h) (suc (routeAt b w)) m)))
+          ≡ resolve (take (suc (w .length)) b)
+          (resolve (take (w .length) b) (turning s h b turn) (headOf (inTurn (pathsAfter s h) (suc (routeAt b w)) m)))
           (following (remaining s h (taken s h w (routeAt b w))) (drop (suc (w .length)) b))
       step-on =
           k .is
@@ -95,34 +96,41 @@ module _ {s : List ℤ} {h : Header} {b : List ℕ} {w₀ w : Walker} {turn : Fo
     -- the walk takes it; where it is not the step's last, a later route could be taken here
     module _ (o : RouteOf s h (w .step) (routeAt b w)) (t : Found) where
       taken-on : CanTurn s h b t
-          → following (remaining s h w₀) b ≡ resolve (take (suc (w .length)) b) (turning s h b t) (following (remaining s h (taken s h w (routeAt b w))) (drop (suc (w .length)) b))
+          → following (remaining s h w₀) b ≡ resolve (take (suc (w .length)) b) (turning s h b t)
+          (following (remaining s h (taken s h w (routeAt b w))) (drop (suc (w .length)) b))
           → Seeking s h b w₀ (taken s h w (routeAt b w)) t
       unfolding taken
       taken-on c z =
           record {
             going = going-on (k .going) on (routeAt b w) o;
             can = c;
-            is = subst (λ (n : ℕ). following (remaining s h w₀) b ≡ resolve (take n b) (turning s h b t) (following (remaining s h (taken s h w (routeAt b w))) (drop n b))) (sym (add-one (w .length))) z;
+            is =
+                subst (λ (n : ℕ). following (remaining s h w₀) b ≡ resolve (take n b) (turning s h b t)
+                (following (remaining s h (taken s h w (routeAt b w))) (drop n b))) (sym (add-one (w .length))) z;
           }
 
-    pub seek-last : RouteOf s h (w .step) (routeAt b w) → routesEndOf s h (w .step) ≤ routeAt b w + 1 → Seeking s h b w₀ (taken s h w (routeAt b w)) turn
+    pub seek-last : RouteOf s h (w .step) (routeAt b w) → routesEndOf s h (w .step) ≤ routeAt b w + 1
+        → Seeking s h b w₀ (taken s h w (routeAt b w)) turn
     unfolding inTurn headOf resolve
     seek-last o l = taken-on o turn (k .can) (step-on o 0 (omega (arith, o .high)))
 
-    later-head : RouteOf s h (w .step) (suc (routeAt b w)) → (m : ℕ) → resolve (take (w .length) b) (turning s h b turn) (headOf (inTurn (pathsAfter s h) (suc (routeAt b w)) (suc m))) ≡ turning s h b (Turn w)
+    later-head : RouteOf s h (w .step) (suc (routeAt b w)) → (m : ℕ)
+        → resolve (take (w .length) b) (turning s h b turn) (headOf (inTurn (pathsAfter s h) (suc (routeAt b w)) (suc m))) ≡ turning s h b (Turn w)
     unfolding resolve turning turned
     later-head o m =
         let some = some-onward s h a (k .going .way on) (suc (routeAt b w)) o in
         rw (head-some (inTurn (pathsAfter s h) (suc (routeAt b w)) (suc m)) (turn-some (pathsAfter s h) (suc (routeAt b w)) m some))
         (rw (turn-first (pathsAfter s h) (suc (routeAt b w)) m some, turned, add-one (routeAt b w), remaining-taken s h w (suc (routeAt b w))))
 
-    pub seek-turn : RouteOf s h (w .step) (routeAt b w) → routeAt b w + 1 < routesEndOf s h (w .step) → Seeking s h b w₀ (taken s h w (routeAt b w)) (Turn w)
+    pub seek-turn : RouteOf s h (w .step) (routeAt b w) → routeAt b w + 1 < routesEndOf s h (w .step)
+        → Seeking s h b w₀ (taken s h w (routeAt b w)) (Turn w)
     seek-turn o l =
         let m = routesEndOf s h (w .step) - suc (suc (routeAt b w)) in
         let o′ : RouteOf s h (w .step) (routeAt b w + 1) = record { low = omega (arith, o .low); high = l } in
         taken-on o (Turn w) (record { going = k .going; on = on; route = o′ })
         (step-on o (suc m) (omega arith)
-        ∙ ap (λ (y : Following). resolve (take (suc (w .length)) b) y (following (remaining s h (taken s h w (routeAt b w))) (drop (suc (w .length)) b)))
+        ∙ ap
+        (λ (y : Following). resolve (take (suc (w .length)) b) y (following (remaining s h (taken s h w (routeAt b w))) (drop (suc (w .length)) b)))
         (later-head (rw add-one at o′) m))
 
     -- as the code finds it: the step's routes start at `first` and are `many`

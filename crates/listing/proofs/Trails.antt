@@ -24,7 +24,8 @@ use Rattle.listing.proofs.Walks.{start-going, going-on, arrives}
 -- the walk has taken the routes p, and come to w
 pub data Trail (s : List ℤ) (h : Header) (f : ℕ) : List ℕ → Walker → Type 0 where
   begun : Trail s h f [] (started s h f)
-  went : {p : List ℕ} {w : Walker} → Trail s h f p w → w .finished ≡ false → (r : ℕ) → RouteOf s h (w .step) r → Trail s h f (p ++ r ∷ []) (taken s h w r)
+  went : {p : List ℕ} {w : Walker} → Trail s h f p w → w .finished ≡ false → (r : ℕ) → RouteOf s h (w .step) r
+      → Trail s h f (p ++ r ∷ []) (taken s h w r)
 
 -- the routes q lead on from w to a terminal
 Ending : List ℤ → Header → Walker → List ℕ → Type 0
@@ -37,7 +38,8 @@ module _ {s : List ℤ} {h : Header} {f : ℕ} {b : List ℕ} (u : Lent s h f b)
   trail-going (went t e r o) = going-on (trail-going t) e r o
 
   -- a route of an unfinished walk, with what leads on from there
-  route-path : (w : Walker) {n : ℕ} → Way s h (w .step) n → (r : ℕ) → RouteOf s h (w .step) r → (q : List ℕ) → Ending s h (taken s h w r) q → PathFrom s h (w .step) (r ∷ q)
+  route-path : (w : Walker) {n : ℕ} → Way s h (w .step) n → (r : ℕ) → RouteOf s h (w .step) r → (q : List ℕ) → Ending s h (taken s h w r) q
+      → PathFrom s h (w .step) (r ∷ q)
   unfolding Ending taken target
   route-path w y r o q (inl z) = subst (λ (t : List ℕ). PathFrom s h (w .step) (r ∷ t)) (sym (z .1)) (last o (kind-ends s h r (z .0)))
   route-path w y r o q (inr z) = next o (kind-leads s h (u .sheet) y r o (z .0)) (z .1)

@@ -130,7 +130,8 @@ module _ {s : List ℤ} {h : Header} {path₀ : List ℕ} {w₀ : Walker} {path 
           going = going-on (d .going) on r first-of;
           to = rw z at (d .to);
           wrote =
-              subst (λ (n : ℕ). sets (set path (w .length) r) n (firstWay s h (taken s h w r)) ≡ sets path₀ (w₀ .length) (firstWay s h w₀)) (sym (add-one (w .length)))
+              subst (λ (n : ℕ). sets (set path (w .length) r) n (firstWay s h (taken s h w r)) ≡ sets path₀ (w₀ .length) (firstWay s h w₀))
+              (sym (add-one (w .length)))
               (rw z at (d .wrote));
         }
 
@@ -161,7 +162,8 @@ last-append d r [] q = refl
 last-append d r (x ∷ p) q = last-append x r p q
 
 -- a walk that has taken the routes p, takes r and then q, and arrives
-pub arrives : (s : List ℤ) (h : Header) (w : Walker) (p : List ℕ) (r : ℕ) (q : List ℕ) → w .length ≡ length p → arrived (walked s h w (r ∷ q)) ≡ walkOf s h (p ++ r ∷ q)
+pub arrives : (s : List ℤ) (h : Header) (w : Walker) (p : List ℕ) (r : ℕ) (q : List ℕ) → w .length ≡ length p
+    → arrived (walked s h w (r ∷ q)) ≡ walkOf s h (p ++ r ∷ q)
 unfolding terminal
 arrives s h w p r q e =
     let x : walked s h w (r ∷ q) .step ≡ terminal s h (p ++ r ∷ q) = walked-last s h w r q ∙ ap (target s h) (sym (last-append 0 r p q)) in

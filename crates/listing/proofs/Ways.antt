@@ -33,7 +33,8 @@ module _ (s : List ℤ) (h : Header) (from : ℕ → List (List ℕ)) (r : ℕ) 
   unfolding onward
   onward-leads e = rw (e, onward)
 
-pub onward-same : (s : List ℤ) (h : Header) (f g : ℕ → List (List ℕ)) (r : ℕ) → (ends s h r ≡ false → f (target s h r) ≡ g (target s h r)) → onward s h f r ≡ onward s h g r
+pub onward-same : (s : List ℤ) (h : Header) (f g : ℕ → List (List ℕ)) (r : ℕ) → (ends s h r ≡ false → f (target s h r) ≡ g (target s h r))
+    → onward s h f r ≡ onward s h g r
 onward-same s h f g r k =
     ⊎-elim (λ e. onward-ends s h f r e ∙ sym (onward-ends s h g r e)) (λ e. onward-leads s h f r e ∙ k e ∙ sym (onward-leads s h g r e))
     (bool-cases (ends s h r))

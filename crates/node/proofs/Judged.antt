@@ -13,13 +13,15 @@ use Rattle.signed.specs.Words.{within, big, bounded, num}
 use Rattle.signed.proofs.Bounds.{in-true, true-small, small-in}
 use Rattle.words.specs.Record.{numbersOf, unused}
 use Rattle.item.specs.declared.Item.{Item}
-use Rattle.item.specs.Items.{Small, small}
+use Rattle.item.specs.Items.{small}
+use Rattle.item.specs.Inner.{Small}
 use Rattle.node.specs.declared.Given.{Given}
 use Rattle.node.specs.Rows.{Row, unknown, rows, rowOf, fits}
 use Rattle.node.specs.Judged.{bad, keep, judged}
 
 -- a row that takes what it is given
-pub accepted : (r : Row) (g : Given) (t : Bool) → r .takes g ≡ t → keep (unused (r .used) (numbersOf (g .words)) && t && small (r .gives g)) (r .gives g) ≡ judged r g
+pub accepted : (r : Row) (g : Given) (t : Bool) → r .takes g ≡ t
+    → keep (unused (r .used) (numbersOf (g .words)) && t && small (r .gives g)) (r .gives g) ≡ judged r g
 unfolding judged fits
 accepted r g t e = rw e
 

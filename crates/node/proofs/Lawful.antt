@@ -40,12 +40,15 @@ pub record Known (g : Given) (facts verdicts : List ℤ) (v w : ℤ) : Type 0 wh
 
 -- the fact, of a row
 abbrev pub Lawful : Row → Type 0
-Lawful r = (g : Given) (facts verdicts : List ℤ) (x y : ℤ) → Known g facts verdicts x y → r .takes g ≡ true → Of (r .gives g) (r .value (seen g facts verdicts x y))
+Lawful r =
+    (g : Given) (facts verdicts : List ℤ) (x y : ℤ) → Known g facts verdicts x y → r .takes g ≡ true → Of (r .gives g)
+    (r .value (seen g facts verdicts x y))
 
 point : (v : ℤ) → In v v v
 point v = record { low = le-refl v; high = le-refl v }
 
-compared-in : (op : ℕ) (f g : Item) (x y : ℤ) → In (f .low) x (f .high) → In (g .low) y (g .high) → In (compared op f g .low) (bit (holds op x y)) (compared op f g .high)
+compared-in : (op : ℕ) (f g : Item) (x y : ℤ) → In (f .low) x (f .high) → In (g .low) y (g .high)
+    → In (compared op f g .low) (bit (holds op x y)) (compared op f g .high)
 compared-in op f g x y i j = go (holds op x y) refl
   where
     low : (t : Bool) → In (cond t (pos 0) (pos 1)) (pos 1) (pos 1)
@@ -56,7 +59,9 @@ compared-in op f g x y i j = go (holds op x y) refl
     high true = omega arith
     high false = omega arith
 
-    go : (t : Bool) → holds op x y ≡ t → In (cond (canFail op (f .low) (f .high) (g .low) (g .high)) (pos 0) (pos 1)) (bit t) (cond (canHold op (f .low) (f .high) (g .low) (g .high)) (pos 1) (pos 0))
+    go : (t : Bool) → holds op x y ≡ t
+        → In (cond (canFail op (f .low) (f .high) (g .low) (g .high)) (pos 0) (pos 1)) (bit t)
+        (cond (canHold op (f .low) (f .high) (g .low) (g .high)) (pos 1) (pos 0))
     go true e = rw (hold-in op i j e) (low (canFail op (f .low) (f .high) (g .low) (g .high)))
     go false e = rw (fail-in op i j e) (high (canHold op (f .low) (f .high) (g .low) (g .high)))
 
@@ -66,8 +71,10 @@ number-pair x y e z = omega (arith, eqb-true (x .sort) 1 (and-right (eqb (x .sor
 
 -- two children of type Bool
 bool-pair : (x y : Item) (v w : ℤ) → bools x y ≡ true → Of x v → Of y w → IsBool v × IsBool w
-bool-pair x y v w e p q =
-    (p .bool (eqb-true (x .sort) 0 (and-left (eqb (x .sort) 0) (eqb (y .sort) 0) e)), q .bool (eqb-true (y .sort) 0 (and-right (eqb (x .sort) 0) (eqb (y .sort) 0) e)))
+bool-pair x y v w e p q = (
+  p .bool (eqb-true (x .sort) 0 (and-left (eqb (x .sort) 0) (eqb (y .sort) 0) e)),
+  q .bool (eqb-true (y .sort) 0 (and-right (eqb (x .sort) 0) (eqb (y .sort) 0) e)),
+)
 
 -- ---- the rows
 
@@ -118,7 +125,10 @@ disjunction-lawful g f w x y k e =
 
 negated-lawful : Lawful negated
 negated-lawful g f w x y k e =
-    record { inside = rw (negate-minus x (k .x .bool (eqb-true _ _ e))) (in-minus (point (pos 1)) (k .x .inside)); bool = λ z. bit-bool (not (isTrue x)) }
+    record {
+      inside = rw (negate-minus x (k .x .bool (eqb-true _ _ e))) (in-minus (point (pos 1)) (k .x .inside));
+      bool = λ z. bit-bool (not (isTrue x));
+    }
 
 unknown-lawful : Lawful unknown
 unknown-lawful g f w x y k e = absurd (true-false e refl)

@@ -4,7 +4,8 @@ use Prim.Native.Nat.{ℕ, zero, suc}
 use mathlib.Core.Bool.{Bool, true, false, cond}
 use mathlib.Core.List.{List, [], _∷_}
 use Rattle.item.specs.declared.Item.{Item}
-use Rattle.item.specs.Items.{none, Small}
+use Rattle.item.specs.Items.{none}
+use Rattle.item.specs.Inner.{Small}
 use Rattle.node.specs.declared.Given.{Given}
 use Rattle.node.specs.declared.Judgement.{Judgement}
 use Rattle.node.specs.declared.Kids.{Kids}

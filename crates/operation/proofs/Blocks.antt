@@ -56,7 +56,8 @@ module _ (s : List ℤ) (h : Header) (states : List ℤ) (at j end : ℕ) where
       }
 
   pub more : (e : ℕ) (flags : List Bool) (on joined : Bool) (n : ℕ) → Collecting s h states at j end e flags → e < end → outcome s h e ≡ j
-      → on ≡ starts states (effect s h e) → n ≡ effect s h e .w0 → joined ≡ (getD flags n false || on) → Collecting s h states at j end (e + 1) (set flags n joined)
+      → on ≡ starts states (effect s h e) → n ≡ effect s h e .w0 → joined ≡ (getD flags n false || on) → Collecting s h states at j end (e + 1)
+      (set flags n joined)
   unfolding hits
   more e flags on joined n r l out p q t =
       record {
@@ -88,7 +89,8 @@ module _ {s : List ℤ} {h : Header} {states : List ℤ} {o : ℕ} (w : Ready s 
             omega (
               arith,
               k .from stop (r .order) (omega arith),
-              ascends (w .accepted) o (w .exists) stop e a (record { low = omega (arith, k .low, r .order); high = omega arith }) (record { low = omega (arith, k .low, r .order); high = b }),
+              ascends (w .accepted) o (w .exists) stop e a (record { low = omega (arith, k .low, r .order); high = omega arith })
+                  (record { low = omega (arith, k .low, r .order); high = b }),
             );
       }
     where
@@ -116,7 +118,8 @@ module _ {s : List ℤ} {h : Header} {states : List ℤ} {o : ℕ} (w : Ready s 
   unfolding hits matched moves
   hit-matched n d l p =
       let q = simp tests at p in
-      any-of (moves s h states o j n) (h .effects) d (inside (w .accepted) o (w .exists) d (record { low = omega (arith, k .low); high = omega (arith, r .here) }))
+      any-of (moves s h states o j n) (h .effects) d
+      (inside (w .accepted) o (w .exists) d (record { low = omega (arith, k .low); high = omega (arith, r .here) }))
       (simp tests (of-block d (q .0) l, q .1))
 
   moves-hit : (n d : ℕ) → moves s h states o j n d ≡ true → anyBelow (hits s h states at n) stop ≡ true
@@ -143,7 +146,8 @@ module _ {s : List ℤ} {h : Header} {states : List ℤ} {o : ℕ} (w : Ready s 
       }
 
 -- the same, with the end that the code has read
-pub collected-by : {s : List ℤ} {h : Header} {states : List ℤ} {o : ℕ} → Ready s h states o → (x : Effects) → x ≡ effectsOf s h o → (j at stop : ℕ) (flags : List Bool) → OutcomeAt s h o j at
+pub collected-by : {s : List ℤ} {h : Header} {states : List ℤ} {o : ℕ} → Ready s h states o → (x : Effects) → x ≡ effectsOf s h o
+    → (j at stop : ℕ) (flags : List Bool) → OutcomeAt s h o j at
     → Collecting s h states at j (x .end) stop flags → (stop < x .end → outcome s h stop ≡ j → ⊥) → Collected s h states o j at stop flags
 collected-by {s} {h} {states} {o} w x e j at stop flags k r last =
     let z = end-is s h o x e in collected w j at stop flags k (rw z at r) (rw z at last)

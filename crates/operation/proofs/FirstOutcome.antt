@@ -40,7 +40,8 @@ pub record Checked (s : List ℤ) (h : Header) (flags : List Bool) (at₀ j₀ s
 pub unchecked : (s : List ℤ) (h : Header) (flags : List Bool) (at j stop : ℕ) → at ≤ stop → Checked s h flags at j stop at j at
 unchecked s h flags at j stop l = record { same-at = refl; same-j = refl; order = omega arith; here = l; each = λ d a b. absurd (omega arith) }
 
-pub checked-more : (s : List ℤ) (h : Header) (flags : List Bool) (at₀ j₀ stop at j e n : ℕ) → Checked s h flags at₀ j₀ stop at j e → e < stop → n ≡ effect s h e .w0
+pub checked-more : (s : List ℤ) (h : Header) (flags : List Bool) (at₀ j₀ stop at j e n : ℕ) → Checked s h flags at₀ j₀ stop at j e → e < stop
+    → n ≡ effect s h e .w0
     → not (getD flags n false) ≡ false → Checked s h flags at₀ j₀ stop at j (e + 1)
 checked-more s h flags at₀ j₀ stop at j e n r l t p =
     record { same-at = r .same-at; same-j = r .same-j; order = omega (arith, r .order); here = omega arith; each = λ d a b. go d a b (decLt d e) }
@@ -78,7 +79,11 @@ module _ {s : List ℤ} {h : Header} {states : List ℤ} {o : ℕ} (w : Ready s 
   module _ (j at stop : ℕ) (flags : List Bool) (r : Passed s h states o j at) (k : Collected s h states o j at stop flags) where
     pub reads : (e : ℕ) → at ≤ e → e < stop → Read s h states e
     reads e a b =
-        record { accepted = w .accepted; long = w .lent .long; exists = inside (w .accepted) o (w .exists) e (record { low = omega (arith, r .start .low); high = omega (arith, k .next .high) }) }
+        record {
+          accepted = w .accepted;
+          long = w .lent .long;
+          exists = inside (w .accepted) o (w .exists) e (record { low = omega (arith, r .start .low); high = omega (arith, k .next .high) });
+        }
 
     pub ends-early : stop ≤ 512
     ends-early = omega (arith, k .next .high, operation-ok (w .accepted) o (w .exists) .end, w .accepted .sized .limits .effects)
@@ -87,7 +92,8 @@ module _ {s : List ℤ} {h : Header} {states : List ℤ} {o : ℕ} (w : Ready s 
     flag-is e a b = k .each (effect s h e .w0) (has-flag (reads e a b))
 
     -- an effect whose entity is not matched: the outcome is passed
-    pub blocked : (at₁ j₁ e n : ℕ) → Checked s h flags at j stop at₁ j₁ e → e < stop → j < operation s h o .w4 → n ≡ effect s h e .w0 → not (getD flags n false) ≡ true
+    pub blocked : (at₁ j₁ e n : ℕ) → Checked s h flags at j stop at₁ j₁ e → e < stop → j < operation s h o .w4 → n ≡ effect s h e .w0
+        → not (getD flags n false) ≡ true
         → Passed s h states o (j₁ + 1) stop
     unfolding applicable unblocked
     blocked at₁ j₁ e n c b l t p =
@@ -105,5 +111,7 @@ module _ {s : List ℤ} {h : Header} {states : List ℤ} {o : ℕ} (w : Ready s 
         rw (c .same-j, q, lt-ltb j (operation s h o .w4) l)
       where
         free : (d : ℕ) → (ofOutcome s h o j d ≡ true) ⊎ (ofOutcome s h o j d ≡ false) → unblocked s h states o j d ≡ true
-        free d (inl t) = let b = k .only d t in rw (sym (flag-is d (b .0) (b .1)) ∙ c .each d (b .0) (omega (arith, b .1))) (or-true-right (not (ofOutcome s h o j d)) true refl)
+        free d (inl t) =
+            let b = k .only d t in
+            rw (sym (flag-is d (b .0) (b .1)) ∙ c .each d (b .0) (omega (arith, b .1))) (or-true-right (not (ofOutcome s h o j d)) true refl)
         free d (inr t) = rw t

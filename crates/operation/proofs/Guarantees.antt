@@ -55,7 +55,8 @@ module _ (s : List ℤ) (h : Header) (states : List ℤ) (o : ℕ) where
             applies = not-false _ (scanned .fails l);
             earlier = λ i m. not-true _ (scanned .passed i (omega arith) m);
           })
-      go (no n) = let z : _≡_ {A = ℕ} 0 1 = cc (rw (le-ltb (firstApplicable s h states o) (operation s h o .w4) (omega arith)) at p) in absurd (omega arith)
+      go (no n) =
+          let z : _≡_ {A = ℕ} 0 1 = cc (rw (le-ltb (firstApplicable s h states o) (operation s h o .w4) (omega arith)) at p) in absurd (omega arith)
 
   -- where nothing is chosen, no outcome is applicable
   pub nothing-applies : chosen s h states o ≡ Nothing → (j : ℕ) → j < operation s h o .w4 → applicable s h states o j ≡ false
@@ -148,17 +149,21 @@ module _ {s : List ℤ} {h : Header} {states : List ℤ} {o : ℕ} (w : Ready s 
       where
         go : (matched s h states o j n ≡ true) ⊎ (matched s h states o j n ≡ false) → Fate s h states o j n (newState s h states o j n)
         go (inl t) = let m = matched-by w j n t in moved (m .0) (m .1) (goes s h states o j n (w .accepted) (w .exists) (m .0) (m .1))
-        go (inr f) = let q : (e : ℕ) → Moves s h states o j n e → ⊥ = λ e m. true-false (by-matched w j n e m) f in unmoved q (stays s h states o j n q)
+        go (inr f) =
+            let q : (e : ℕ) → Moves s h states o j n e → ⊥ = λ e m. true-false (by-matched w j n e m) f in unmoved q (stays s h states o j n q)
 
     -- entities not named stay
-    pub unnamed-stays : (n : ℕ) → n < h .entities → ((e : ℕ) → Names s h o j n e → ⊥) → getD (applied s h states o j) n (pos 0) ≡ getD states n (pos 0)
-    unnamed-stays n l f = applied-at s h states o j n l ∙ stays s h states o j n (λ e m. f e (record { of = m .of; outcome = m .outcome; entity = m .entity }))
+    pub unnamed-stays : (n : ℕ) → n < h .entities → ((e : ℕ) → Names s h o j n e → ⊥)
+        → getD (applied s h states o j) n (pos 0) ≡ getD states n (pos 0)
+    unnamed-stays n l f =
+        applied-at s h states o j n l ∙ stays s h states o j n (λ e m. f e (record { of = m .of; outcome = m .outcome; entity = m .entity }))
 
     -- the new states are among their entities' states
     pub applied-in : StatesIn s h (applied s h states o j)
     applied-in = record { long = length-applied s h states o j; each = λ n l. go n l (fate n l) }
       where
-        go : (n : ℕ) → n < h .entities → Fate s h states o j n (getD (applied s h states o j) n (pos 0)) → present (applied s h states o j) n < stateCount s h n
+        go : (n : ℕ) → n < h .entities → Fate s h states o j n (getD (applied s h states o j) n (pos 0))
+            → present (applied s h states o j) n < stateCount s h n
         go n l (moved e m q) =
             rw (q, num-of (effect s h e .w2)) (rw (m .entity) at (effect-ok (w .accepted) o (w .exists) e (m .of) .change .to))
         go n l (unmoved f q) = rw q (w .lent .each n l)
@@ -171,10 +176,12 @@ module _ {s : List ℤ} {h : Header} {states : List ℤ} {o : ℕ} (w : Ready s 
       go Nothing p = rw (performed-not s h states o p) (w .lent)
 
   -- a state changes only along a declared transition that an effect of the chosen outcome names and that starts from the present state
-  pub changes : (n : ℕ) → n < h .entities → (getD (performed s h states o) n (pos 0) ≡ getD states n (pos 0) → ⊥) → (j : ℕ) × (e : ℕ) × Changed s h states o j n e
+  pub changes : (n : ℕ) → n < h .entities → (getD (performed s h states o) n (pos 0) ≡ getD states n (pos 0) → ⊥)
+      → (j : ℕ) × (e : ℕ) × Changed s h states o j n e
   changes n l f = go (chosen s h states o) refl
     where
-      along : (j : ℕ) → chosen s h states o ≡ Outcome j → Fate s h states o j n (getD (applied s h states o j) n (pos 0)) → (j : ℕ) × (e : ℕ) × Changed s h states o j n e
+      along : (j : ℕ) → chosen s h states o ≡ Outcome j → Fate s h states o j n (getD (applied s h states o j) n (pos 0))
+          → (j : ℕ) × (e : ℕ) × Changed s h states o j n e
       along j p (unmoved g q) = absurd (f (rw (performed-by s h states o j p) q))
       along j p (moved e m q) = (
         j,

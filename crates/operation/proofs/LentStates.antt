@@ -35,7 +35,8 @@ module _ (s : List ℤ) (h : Header) (states : List ℤ) where
   pub stray : (n : ℕ) → Judged s h states n → n < h .entities → stateCount s h n ≤ present states n → Refused (State n) ≡ statesFault s h states
   unfolding statesFault firstStray stateIn
   stray n r l q =
-      let e = first-fail (stateIn s h states) (h .entities) n (stopped (stateIn s h states) 0 (h .entities) n (omega arith) l (r .each) (le-ltb _ _ q)) in
+      let e =
+      first-fail (stateIn s h states) (h .entities) n (stopped (stateIn s h states) 0 (h .entities) n (omega arith) l (r .each) (le-ltb _ _ q)) in
       rw (e, lt-ltb n (h .entities) l)
 
   pub all-in : (n : ℕ) → Judged s h states n → h .entities ≤ n → Done ≡ statesFault s h states
@@ -48,7 +49,11 @@ module _ (s : List ℤ) (h : Header) (states : List ℤ) where
   pub states-in : length states ≡ h .entities → statesFault s h states ≡ Done → StatesIn s h states
   unfolding statesFault firstStray stateIn
   states-in long p =
-      record { long = long; each = λ n l. ltb-true _ _ (first-scan (stateIn s h states) (h .entities) .passed n (omega arith) (omega (arith, none-stray (decLt (firstStray s h states) (h .entities))))) }
+      record {
+        long = long;
+        each = λ n l. ltb-true _ _ (first-scan (stateIn s h states) (h .entities) .passed n (omega arith)
+            (omega (arith, none-stray (decLt (firstStray s h states) (h .entities)))));
+      }
     where
       none-stray : Dec (firstStray s h states < h .entities) → h .entities ≤ firstStray s h states
       none-stray (no x) = omega arith

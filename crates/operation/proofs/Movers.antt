@@ -45,7 +45,9 @@ module _ (s : List ℤ) (h : Header) (states : List ℤ) (o j n : ℕ) where
   unfolding newState mover
   stays none =
       let f : ℕ → Bool = λ e. not (moves s h states o j n e) in
-      let q = first-fail f (h .effects) (h .effects) (ended f 0 (h .effects) (h .effects) (omega arith) (omega arith) (omega arith) (λ e a b. go e (bool-cases (moves s h states o j n e)))) in
+      let q =
+      first-fail f (h .effects) (h .effects)
+      (ended f 0 (h .effects) (h .effects) (omega arith) (omega arith) (omega arith) (λ e a b. go e (bool-cases (moves s h states o j n e)))) in
       rw (q, le-ltb (h .effects) (h .effects) (omega arith))
     where
       go : (e : ℕ) → (moves s h states o j n e ≡ true) ⊎ (moves s h states o j n e ≡ false) → not (moves s h states o j n e) ≡ true
@@ -62,7 +64,8 @@ module _ (s : List ℤ) (h : Header) (states : List ℤ) (o j n : ℕ) where
     mover-is e m =
         let f : ℕ → Bool = λ d. not (moves s h states o j n d) in
         first-fail f (h .effects) e
-        (stopped f 0 (h .effects) e (omega arith) (inside a o l e (m .of)) (λ d p q. go d q (bool-cases (moves s h states o j n d))) (rw (true-moves e m)))
+        (stopped f 0 (h .effects) e (omega arith) (inside a o l e (m .of)) (λ d p q. go d q (bool-cases (moves s h states o j n d)))
+        (rw (true-moves e m)))
       where
         go : (d : ℕ) → d < e → (moves s h states o j n d ≡ true) ⊎ (moves s h states o j n d ≡ false) → not (moves s h states o j n d) ≡ true
         go d q (inl t) = let z = one-mover d e (moves-true d t) m in absurd (omega arith)

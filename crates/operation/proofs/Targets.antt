@@ -30,10 +30,12 @@ module _ (s : List ℤ) (h : Header) (o : ℕ) (x : Effects) (e : x ≡ effectsO
   outcomes-is = ap (λ (y : Effects). y .outcomes) e
 
 -- an effect before the end of an operation's is an effect of the sheet
-pub exists-in : {s : List ℤ} {h : Header} {states : List ℤ} {o : ℕ} → Ready s h states o → (x : Effects) → x ≡ effectsOf s h o → (d : ℕ) → d < x .end → d < h .effects
+pub exists-in : {s : List ℤ} {h : Header} {states : List ℤ} {o : ℕ} → Ready s h states o → (x : Effects) → x ≡ effectsOf s h o → (d : ℕ) → d < x .end
+    → d < h .effects
 exists-in {s} {h} {states} {o} w x e d l = omega (arith, end-is s h o x e, operation-ok (w .accepted) o (w .exists) .end)
 
-pub read-in : {s : List ℤ} {h : Header} {states : List ℤ} {o : ℕ} → Ready s h states o → (x : Effects) → x ≡ effectsOf s h o → (d : ℕ) → d < x .end → Read s h states d
+pub read-in : {s : List ℤ} {h : Header} {states : List ℤ} {o : ℕ} → Ready s h states o → (x : Effects) → x ≡ effectsOf s h o → (d : ℕ) → d < x .end
+    → Read s h states d
 read-in w x e d l = record { accepted = w .accepted; long = w .lent .long; exists = exists-in w x e d l }
 
 module _ {s : List ℤ} {h : Header} {states : List ℤ} {e : ℕ} (r : Read s h states e) where

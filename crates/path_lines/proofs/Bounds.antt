@@ -33,7 +33,12 @@ number-some n t = omega (arith, length-append (decimal (pos n)) (endingOf t ∷ 
 
 line-size : (n k m : ℕ) (ns : List ℕ) → n < 10 ^ suc k → length (numbersLine ns) ≤ m → length (numbersLine (n ∷ ns)) ≤ suc (suc k) + m
 line-size n k m ns l q =
-    omega (arith, ap length (line-more n ns), length-append (numberField n (eqb (length ns) 0)) (numbersLine ns), number-size n k (eqb (length ns) 0) l)
+    omega (
+      arith,
+      ap length (line-more n ns),
+      length-append (numberField n (eqb (length ns) 0)) (numbersLine ns),
+      number-size n k (eqb (length ns) 0) l,
+    )
 
 module _ (s : List ℤ) (h : Header) (a : Accepted s h) where
   routes-size : {i : ℕ} {p : List ℕ} → PathFrom s h i p → (n : ℕ) → Way s h i n → length (numbersLine p) ≤ 5 * length p

@@ -33,7 +33,8 @@ use Rattle.path_lines.proofs.Bounds.{path-short}
 -- ---- what remains
 
 -- the line of path k, and then the later ones of its flow
-rest-more : (s : List ℤ) (h : Header) (f k : ℕ) → k < count s h f → k < most → flowRest s h f k ≡ pathLine s h f (path s h f k) ++ flowRest s h f (suc k)
+rest-more : (s : List ℤ) (h : Header) (f k : ℕ) → k < count s h f → k < most
+    → flowRest s h f k ≡ pathLine s h f (path s h f k) ++ flowRest s h f (suc k)
 unfolding flowRest count path join
 rest-more s h f k l m =
     let ps = take most (paths s h f) in
@@ -54,7 +55,8 @@ unfolding flowRest flowLines
 rest-all s h f = refl
 
 -- a flow's rest and the later flows
-remaining-on : (s : List ℤ) (h : Header) (c : Cursor) → c .flow < h .flows → remaining s h c ≡ flowRest s h (c .flow) (c .number) ++ flowsLines s h (suc (c .flow)) (h .flows - suc (c .flow))
+remaining-on : (s : List ℤ) (h : Header) (c : Cursor) → c .flow < h .flows
+    → remaining s h c ≡ flowRest s h (c .flow) (c .number) ++ flowsLines s h (suc (c .flow)) (h .flows - suc (c .flow))
 unfolding remaining flowsRest
 remaining-on s h c l = let z : h .flows - c .flow ≡ suc (h .flows - suc (c .flow)) = omega arith in rw z
 
@@ -62,7 +64,8 @@ pub remaining-past : (s : List ℤ) (h : Header) (c : Cursor) → h .flows ≤ c
 unfolding remaining flowsRest
 remaining-past s h c l = let z : h .flows - c .flow ≡ 0 = omega arith in rw z
 
-flows-on : (s : List ℤ) (h : Header) (f : ℕ) → f < h .flows → flowsLines s h f (h .flows - f) ≡ flowLines s h f ++ flowsLines s h (suc f) (h .flows - suc f)
+flows-on : (s : List ℤ) (h : Header) (f : ℕ) → f < h .flows
+    → flowsLines s h f (h .flows - f) ≡ flowLines s h f ++ flowsLines s h (suc f) (h .flows - suc f)
 unfolding flowsLines
 flows-on s h f l = let z : h .flows - f ≡ suc (h .flows - suc f) = omega arith in rw z
 
@@ -178,20 +181,24 @@ module _ {s : List ℤ} {h : Header} {c : Cursor} {b : List ℕ} (u : Stands s h
   pub takes : remaining s h c ≡ pathLine s h (c .flow) (path s h (c .flow) (c .number)) ++ later s h c
   takes =
       remaining-on s h c l
-      ∙ ap (λ (x : List ℕ). x ++ flowsLines s h (suc (c .flow)) (h .flows - suc (c .flow))) (rest-more s h (c .flow) (c .number) (held .there) (held .early))
-      ∙ append-assoc (pathLine s h (c .flow) (path s h (c .flow) (c .number))) (flowRest s h (c .flow) (suc (c .number))) (flowsLines s h (suc (c .flow)) (h .flows - suc (c .flow)))
+      ∙ ap (λ (x : List ℕ). x ++ flowsLines s h (suc (c .flow)) (h .flows - suc (c .flow)))
+      (rest-more s h (c .flow) (c .number) (held .there) (held .early))
+      ∙ append-assoc (pathLine s h (c .flow) (path s h (c .flow) (c .number))) (flowRest s h (c .flow) (suc (c .number)))
+      (flowsLines s h (suc (c .flow)) (h .flows - suc (c .flow)))
 
   here : following (paths s h (c .flow)) b ≡ following (paths s h (c .flow)) (laid (path s h (c .flow) (c .number)) b)
   here = ap (following (paths s h (c .flow))) (held .holds)
 
   -- the flow's last path stands there
-  follow-flow : (count s h (c .flow) ≤ suc (c .number)) ⊎ (most ≤ suc (c .number)) → {d : List ℕ} {c′ : Cursor} {b′ : List ℕ} → Starts s h (suc (c .flow)) d c′ b′ → Follows s h c c′ b′
+  follow-flow : (count s h (c .flow) ≤ suc (c .number)) ⊎ (most ≤ suc (c .number)) → {d : List ℕ} {c′ : Cursor} {b′ : List ℕ}
+      → Starts s h (suc (c .flow)) d c′ b′ → Follows s h c c′ b′
   follow-flow z {d} {c′} {b′} t =
       record {
         stands = t .stands;
         same =
             takes
-            ∙ ap (λ (x : List ℕ). pathLine s h (c .flow) (path s h (c .flow) (c .number)) ++ (x ++ flowsLines s h (suc (c .flow)) (h .flows - suc (c .flow)))) (rest-none s h (c .flow) (suc (c .number)) z)
+            ∙ ap (λ (x : List ℕ). pathLine s h (c .flow) (path s h (c .flow) (c .number))
+            ++ (x ++ flowsLines s h (suc (c .flow)) (h .flows - suc (c .flow)))) (rest-none s h (c .flow) (suc (c .number)) z)
             ∙ ap (λ (x : List ℕ). pathLine s h (c .flow) (path s h (c .flow) (c .number)) ++ x) (sym (t .same));
       }
 
@@ -222,12 +229,14 @@ module _ {s : List ℤ} {h : Header} {c : Cursor} {b : List ℕ} (u : Stands s h
             let v : _≡_ {A = ℕ} 0 1 = cc (sym (ap (answerOf s h) y) ∙ sym e ∙ p) in
             absurd (omega arith)
 
-    pub follow-last : {q : Refusal} → r ≡ Refused q → {d : List ℕ} {c′ : Cursor} {b′ : List ℕ} → Starts s h (c .flow + 1) d c′ b′ → Follows s h c c′ b′
+    pub follow-last : {q : Refusal} → r ≡ Refused q → {d : List ℕ} {c′ : Cursor} {b′ : List ℕ} → Starts s h (c .flow + 1) d c′ b′
+        → Follows s h c c′ b′
     follow-last p t = follow-flow (inl (last-count p)) (rw (add-one (c .flow)) at t)
 
     -- what `enter` asks for at the next flow: all paths were written, or one more follows the last of them
     pub next-whole : {q : Refusal} → r ≡ Refused q → (c .flow + 1 ≤ h .flows) × (c .cut ≡ someCut s h (c .flow + 1))
-    next-whole p = (omega arith, u .told ∙ flow-whole s h (c .flow) (omega (arith, last-count p, held .early)) ∙ ap (someCut s h) (sym (add-one (c .flow))))
+    next-whole p =
+        (omega arith, u .told ∙ flow-whole s h (c .flow) (omega (arith, last-count p, held .early)) ∙ ap (someCut s h) (sym (add-one (c .flow))))
 
     pub next-cut : {t n : ℕ} → r ≡ Walked t n → most ≤ c .number + 1 → (c .flow + 1 ≤ h .flows) × (true ≡ someCut s h (c .flow + 1))
     next-cut p m = (omega arith, flow-cut s h (c .flow) (omega (arith, next-count p)) ∙ ap (someCut s h) (sym (add-one (c .flow))))
@@ -246,7 +255,14 @@ module _ {s : List ℤ} {h : Header} {c : Cursor} {b : List ℕ} (u : Stands s h
           stands =
               record {
                 ready = ready-same (u .ready) z;
-                path = λ v. record { there = k; early = omega arith; ends = w .0; size = w .1; holds = laid-again (u .ready) (c .flow) (suc (c .number)) l k x };
+                path =
+                    λ v. record {
+                      there = k;
+                      early = omega arith;
+                      ends = w .0;
+                      size = w .1;
+                      holds = laid-again (u .ready) (c .flow) (suc (c .number)) l k x;
+                    };
                 within = u .within;
                 told = u .told;
               };

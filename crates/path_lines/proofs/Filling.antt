@@ -45,7 +45,12 @@ module _ {s : List ℤ} {h : Header} {c : Cursor} {b : List ℕ} (u : Stands s h
   line-some-bytes : 0 < length bytes
   line-some-bytes =
       let ns = c .terminal ∷ take (c .length) b in
-      omega (arith, ap length (line-more (c .flow) ns), length-append (numberField (c .flow) (eqb (length ns) 0)) (numbersLine ns), number-some (c .flow) (eqb (length ns) 0))
+      omega (
+        arith,
+        ap length (line-more (c .flow) ns),
+        length-append (numberField (c .flow) (eqb (length ns) 0)) (numbersLine ns),
+        number-some (c .flow) (eqb (length ns) 0),
+      )
 
   -- what `put_line` asks for
   pub line-fits : (n : ℕ) (out : List ℕ) → n ≤ length out → longestLine ≤ length out - n → n + length bytes ≤ length out
@@ -77,7 +82,8 @@ pub record Filling (s : List ℤ) (h : Header) (c₀ : Cursor) (b₀ out₀ : Li
 pub filling-none : {s : List ℤ} {h : Header} {c : Cursor} {b out : List ℕ} → Stands s h c b → Filling s h c b out c b 0 out
 filling-none u = record { stands = u; same = refl; kept = refl; inside = omega arith; size = refl; wide = refl }
 
-module _ {s : List ℤ} {h : Header} {c₀ : Cursor} {b₀ out₀ : List ℕ} {c : Cursor} {b : List ℕ} {n : ℕ} {out : List ℕ} (w : Filling s h c₀ b₀ out₀ c b n out) where
+module _ {s : List ℤ} {h : Header} {c₀ : Cursor} {b₀ out₀ : List ℕ} {c : Cursor} {b : List ℕ} {n : ℕ} {out : List ℕ}
+    (w : Filling s h c₀ b₀ out₀ c b n out) where
   -- one more line
   module _ (l : c .flow < h .flows) (room : longestLine ≤ length out - n) {n′ : ℕ} {out′ : List ℕ}
       (p : n′ ≡ n + length (bytes (w .stands) l)) (q : out′ ≡ sets out n (bytes (w .stands) l)) where
@@ -101,7 +107,8 @@ module _ {s : List ℤ} {h : Header} {c₀ : Cursor} {b₀ out₀ : List ℕ} {c
               w .same
               ∙ ap (λ (x : List ℕ). take n out ++ x) (f .same ∙ ap (λ (x : List ℕ). x ++ remaining s h c′) (sym (line-is (w .stands) l)))
               ∙ sym (append-assoc (take n out) lineOf (remaining s h c′))
-              ∙ ap (λ (x : List ℕ). x ++ remaining s h c′) (sym (ap (take n′) parts ∙ take-at (take n out ++ lineOf) (drop (n + length lineOf) out) n′ front));
+              ∙ ap (λ (x : List ℕ). x ++ remaining s h c′)
+              (sym (ap (take n′) parts ∙ take-at (take n out ++ lineOf) (drop (n + length lineOf) out) n′ front));
           kept =
               ap (drop n′) parts
               ∙ drop-at (take n out ++ lineOf) (drop (n + length lineOf) out) n′ front
@@ -118,17 +125,28 @@ module _ {s : List ℤ} {h : Header} {c₀ : Cursor} {b₀ out₀ : List ℕ} {c
     filling-less = omega (arith, p, fits, line-some-bytes (w .stands) l, w .size)
 
   pub filling-full : length out - n < longestLine → Stands s h c b × Chunk s h c₀ out₀ c n out
-  filling-full k =
-      (w .stands, record { same = w .same; kept = w .kept; inside = omega (arith, w .inside, w .size); size = w .size; full = λ x. omega (arith, w .size, w .inside) })
+  filling-full k = (
+    w .stands,
+    record {
+      same = w .same;
+      kept = w .kept;
+      inside = omega (arith, w .inside, w .size);
+      size = w .size;
+      full = λ x. omega (arith, w .size, w .inside);
+    },
+  )
 
   pub filling-done : h .flows ≤ c .flow → Stands s h c b × Chunk s h c₀ out₀ c n out
-  filling-done k =
-      (w .stands, record { same = w .same; kept = w .kept; inside = omega (arith, w .inside, w .size); size = w .size; full = λ x. absurd (omega arith) })
+  filling-done k = (
+    w .stands,
+    record { same = w .same; kept = w .kept; inside = omega (arith, w .inside, w .size); size = w .size; full = λ x. absurd (omega arith) },
+  )
 
 -- ---- fill goes on: in a chunk that has room for a line, an unfinished cursor writes at least one
 
 pub progress : {s : List ℤ} {h : Header} {c : Cursor} {b lent : List ℕ} {c′ : Cursor} {n : ℕ} {out : List ℕ}
-    → Stands s h c b → c .flow < h .flows → longestLine ≤ length lent → Chunk s h c lent c′ n out → length (remaining s h c′) < length (remaining s h c)
+    → Stands s h c b → c .flow < h .flows → longestLine ≤ length lent → Chunk s h c lent c′ n out → length (remaining s h c′) < length
+    (remaining s h c)
 progress {s} {h} {c} {b} {lent} {c′} {n} {out} u l k t =
     let split = ap length (t .same) ∙ length-append (take n out) (remaining s h c′) in
     let front : length (take n out) ≡ n = length-take-le n out (omega (arith, t .inside, t .size)) in

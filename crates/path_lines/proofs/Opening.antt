@@ -75,7 +75,8 @@ read-count text room l k = go (all goodLine (linesOf text)) refl ∙ sym (count-
     n = length (wordsOf text)
 
     go : (t : Bool) → all goodLine (linesOf text) ≡ t
-        → fitted room (cond t (Is n) (NoCount (Line (before goodLine (linesOf text))))) ≡ cond t (Is n) (NoCount (Line (before goodLine (linesOf text))))
+        → fitted room (cond t (Is n) (NoCount (Line (before goodLine (linesOf text))))) ≡ cond t (Is n)
+        (NoCount (Line (before goodLine (linesOf text))))
     go true g = rw (le-leb n room (omega (arith, text-words text g)))
     go false g = refl
 
@@ -138,7 +139,8 @@ pub record Entered (text : List ℕ) (left : List ℤ) (h : Header) (n : ℕ) : 
   pub sheet : Accepted (take n left) h
   pub room : n ≤ 8000
 
-entered-sheet : (text : List ℕ) (lent : List ℤ) (h : Header) (n m : ℕ) (o : Climbed) → textCount text ≡ Is m → opened (wordsOf text) ≡ o → sheetEntrance m o ≡ Good h n → Entered text (wordsLeft text lent) h n
+entered-sheet : (text : List ℕ) (lent : List ℤ) (h : Header) (n m : ℕ) (o : Climbed) → textCount text ≡ Is m → opened (wordsOf text) ≡ o
+    → sheetEntrance m o ≡ Good h n → Entered text (wordsLeft text lent) h n
 unfolding by
 entered-sheet text lent h n m (At g) c p e =
     let same : m ≡ n = cc in
@@ -152,7 +154,8 @@ entered-sheet text lent h n m (At g) c p e =
     }
 entered-sheet text lent h n m (Stopped r) c p e = let z : _≡_ {A = ℕ} 0 1 = cc in absurd (omega arith)
 
-pub entered : (text : List ℕ) (lent : List ℤ) {h : Header} {n : ℕ} {x : Entrance} {left : List ℤ} → x ≡ entrance text → left ≡ wordsLeft text lent → x ≡ Good h n → Entered text left h n
+pub entered : (text : List ℕ) (lent : List ℤ) {h : Header} {n : ℕ} {x : Entrance} {left : List ℤ} → x ≡ entrance text → left ≡ wordsLeft text lent
+    → x ≡ Good h n → Entered text left h n
 unfolding entrance wordsEntrance
 entered text lent {h} {n} {x} {left} e f p = rw f (go (textCount text) refl (sym e ∙ p))
   where
@@ -189,7 +192,8 @@ text-low : (text : List ℕ) (r : Refusal) → textCount text ≡ NoCount r → 
 unfolding judged linesOf
 text-low text r e = go (decLt longest (length text))
   where
-    line : (t : Bool) → cond t (Is (length (wordsOf text))) (NoCount (Line (before goodLine (linesOf text)))) ≡ NoCount r → length text ≤ longest → place r < 100000
+    line : (t : Bool) → cond t (Is (length (wordsOf text))) (NoCount (Line (before goodLine (linesOf text)))) ≡ NoCount r → length text ≤ longest
+        → place r < 100000
     line true p l = let z : _≡_ {A = ℕ} 0 1 = cc in absurd (omega arith)
     line false p l =
         let z : Line (before goodLine (linesOf text)) ≡ r = cc in

@@ -65,7 +65,8 @@ unfolding numberField
 number-room n last at room l = omega (arith, l, length-append (decimal (pos n)) (endingOf last ∷ []))
 
 -- what `put_field` leaves
-pub number-put : (n : ℕ) (last : Bool) (at : ℕ) (out : List ℕ) {r e : ℕ} {out′ : List ℕ} → e ≡ endingOf last → r ≡ at + length (decimal (pos n)) + 1 → out′ ≡ sets out at (decimal (pos n) ++ (e ∷ []))
+pub number-put : (n : ℕ) (last : Bool) (at : ℕ) (out : List ℕ) {r e : ℕ} {out′ : List ℕ} → e ≡ endingOf last → r ≡ at + length (decimal (pos n)) + 1
+    → out′ ≡ sets out at (decimal (pos n) ++ (e ∷ []))
     → (r ≡ at + length (numberField n last)) × (out′ ≡ sets out at (numberField n last))
 unfolding numberField
 number-put n last at out z p q =
@@ -106,14 +107,18 @@ module _ (b : List ℕ) (n : ℕ) (l : n ≤ length b) where
       let test : eqb (length (drop (i + 1) p)) 0 ≡ eqb (i + 1) n =
       same-tests _ _ (λ e. eq-eqb (i + 1) n (omega (arith, left, eqb-true (length (drop (i + 1) p)) 0 e)))
       (λ e. eq-eqb (length (drop (i + 1) p)) 0 (omega (arith, left, eqb-true (i + 1) n e))) in
-      ap numbersLine step ∙ line-more (getD b i 0) (drop (i + 1) p) ∙ ap (λ (t : Bool). numberField (getD b i 0) t ++ numbersLine (drop (i + 1) p)) test
+      ap numbersLine step
+      ∙ line-more (getD b i 0) (drop (i + 1) p)
+      ∙ ap (λ (t : Bool). numberField (getD b i 0) t ++ numbersLine (drop (i + 1) p)) test
 
   -- route i is the next part
-  module _ (i : ℕ) (k : i < n) {out₀ : List ℕ} {at₀ : ℕ} {all out : List ℕ} {at : ℕ} (w : Written out₀ at₀ all out at (numbersLine (drop i (take n b)))) where
+  module _ (i : ℕ) (k : i < n) {out₀ : List ℕ} {at₀ : ℕ} {all out : List ℕ} {at : ℕ}
+      (w : Written out₀ at₀ all out at (numbersLine (drop i (take n b)))) where
     pub route-room : at + length (numberField (getD b i 0) (eqb (i + 1) n)) ≤ length out
     route-room = written-room w (numberField (getD b i 0) (eqb (i + 1) n)) (numbersLine (drop (i + 1) (take n b))) (routes-more i k)
 
-    pub route-put : {at′ : ℕ} {out′ : List ℕ} → at′ ≡ at + length (numberField (getD b i 0) (eqb (i + 1) n)) → out′ ≡ sets out at (numberField (getD b i 0) (eqb (i + 1) n)) → Written out₀ at₀ all out′ at′ (numbersLine (drop (i + 1) (take n b)))
+    pub route-put : {at′ : ℕ} {out′ : List ℕ} → at′ ≡ at + length (numberField (getD b i 0) (eqb (i + 1) n))
+        → out′ ≡ sets out at (numberField (getD b i 0) (eqb (i + 1) n)) → Written out₀ at₀ all out′ at′ (numbersLine (drop (i + 1) (take n b)))
     route-put p q = written-more w (numberField (getD b i 0) (eqb (i + 1) n)) (numbersLine (drop (i + 1) (take n b))) (routes-more i k) p q
 
   pub routes-done : (i : ℕ) → n ≤ i → numbersLine (drop i (take n b)) ≡ []
@@ -150,7 +155,8 @@ module _ (r : Refusal) {n k : ℕ} (i : n ≡ number r) (j : k ≡ place r) (out
       pub refused-place : at + length (numberField k true) ≤ length out₂
       refused-place = written-room refused-first (numberField k true) [] (line-last k)
 
-      pub refused-done : {m : ℕ} {out₃ : List ℕ} → m ≡ at + length (numberField k true) → out₃ ≡ sets out₂ at (numberField k true) → (m ≡ length (refusedLine r)) × (out₃ ≡ sets out 0 (refusedLine r))
+      pub refused-done : {m : ℕ} {out₃ : List ℕ} → m ≡ at + length (numberField k true) → out₃ ≡ sets out₂ at (numberField k true)
+          → (m ≡ length (refusedLine r)) × (out₃ ≡ sets out 0 (refusedLine r))
       refused-done q e₃ =
           let z = written-done (written-more refused-first (numberField k true) [] (line-last k) q e₃) refl in
           (omega (arith, z .0), z .1)
@@ -178,12 +184,14 @@ module _ (flow terminal : ℕ) (b : List ℕ) (n : ℕ) (out : List ℕ) (from :
     pub line-two : at₁ + length (numberField terminal false) ≤ length out₁
     line-two = written-room after-one (numberField terminal false) (numbersLine (take n b)) second-part
 
-    module _ {at₂ : ℕ} {out₂ : List ℕ} (p₂ : at₂ ≡ at₁ + length (numberField terminal false)) (e₂ : out₂ ≡ sets out₁ at₁ (numberField terminal false)) where
-      after-two : Written out from whole out₂ at₂ (numbersLine (take n b))
-      after-two = written-more after-one (numberField terminal false) (numbersLine (take n b)) second-part p₂ e₂
+    module _ {at₂ : ℕ} {out₂ : List ℕ} (p₂ : at₂ ≡ at₁ + length (numberField terminal false)) (e₂ : out₂ ≡ sets out₁ at₁ (numberField terminal false))
+      where
+        after-two : Written out from whole out₂ at₂ (numbersLine (take n b))
+        after-two = written-more after-one (numberField terminal false) (numbersLine (take n b)) second-part p₂ e₂
 
-      pub line-three : at₂ + length (numbersLine (take n b)) ≤ length out₂
-      line-three = after-two .room
+        pub line-three : at₂ + length (numbersLine (take n b)) ≤ length out₂
+        line-three = after-two .room
 
-      pub line-done : {r : ℕ} {out₃ : List ℕ} → r ≡ at₂ + length (numbersLine (take n b)) → out₃ ≡ sets out₂ at₂ (numbersLine (take n b)) → (r ≡ from + length whole) × (out₃ ≡ sets out from whole)
-      line-done p₃ e₃ = written-done (written-more after-two (numbersLine (take n b)) [] (sym (append-nil (numbersLine (take n b)))) p₃ e₃) refl
+        pub line-done : {r : ℕ} {out₃ : List ℕ} → r ≡ at₂ + length (numbersLine (take n b)) → out₃ ≡ sets out₂ at₂ (numbersLine (take n b))
+            → (r ≡ from + length whole) × (out₃ ≡ sets out from whole)
+        line-done p₃ e₃ = written-done (written-more after-two (numbersLine (take n b)) [] (sym (append-nil (numbersLine (take n b)))) p₃ e₃) refl

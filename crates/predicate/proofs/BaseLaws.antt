@@ -25,7 +25,8 @@ range-at {s} {h} {n} a l =
     let e = a .header in
     record { first = ap firstNode e; cited = ap (λ (h : Header). h .rules) e; accepted = rw e at a; exists = rw e at l }
 
-pub evaluable-at : {s : List ℤ} {h : Header} {facts verdicts : List ℤ} {n : ℕ} → Evaluable s h facts verdicts n → EvaluableAt s (firstNode h) facts verdicts n
+pub evaluable-at : {s : List ℤ} {h : Header} {facts verdicts : List ℤ} {n : ℕ} → Evaluable s h facts verdicts n
+    → EvaluableAt s (firstNode h) facts verdicts n
 evaluable-at v = let e = v .accepted .header in record { first = ap firstNode e; over = rw e at v }
 
 -- a node that can be evaluated is there, and so is one whose range can be worked out
@@ -84,7 +85,8 @@ lower-node v l = record { first = v .first; accepted = v .accepted; exists = ome
 pub lower-range : {s : List ℤ} {base rules n a : ℕ} → RangeAt s base rules n → a < n → RangeAt s base rules a
 lower-range v l = record { first = v .first; cited = v .cited; accepted = v .accepted; exists = omega (arith, v .exists) }
 
-pub lower-value : {s : List ℤ} {base : ℕ} {facts verdicts : List ℤ} {n a : ℕ} → EvaluableAt s base facts verdicts n → a < n → EvaluableAt s base facts verdicts a
+pub lower-value : {s : List ℤ} {base : ℕ} {facts verdicts : List ℤ} {n a : ℕ} → EvaluableAt s base facts verdicts n → a < n
+    → EvaluableAt s base facts verdicts a
 lower-value v l =
     let o = v .over in
     record { first = v .first; over = record { accepted = o .accepted; known = o .known; judged = o .judged; exists = omega (arith, o .exists) } }

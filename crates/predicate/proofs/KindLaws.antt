@@ -46,14 +46,19 @@ or-decided w facts verdicts x y e = rw (eq-true x (pos 1) e)
 pub decided : (k : ℕ) → Decided (rowOf k)
 decided =
     every Decided
-    ((λ w f v x y e. absurd (true-false e refl)) ▹ (λ w f v x y e. absurd (true-false e refl)) ▹ (λ w f v x y e. absurd (true-false e refl)) ▹ (λ w f v x y e. absurd (true-false e refl)) ▹ (λ w f v x y e. absurd (true-false e refl)) ▹ (λ w f v x y e. absurd (true-false e refl)) ▹ (λ w f v x y e. absurd (true-false e refl)) ▹ (λ w f v x y e. absurd (true-false e refl)) ▹ (λ w f v x y e. absurd (true-false e refl)) ▹ and-decided ▹ or-decided ▹ (λ w f v x y e. absurd (true-false e refl)) ▹ end)
+    ((λ w f v x y e. absurd (true-false e refl)) ▹ (λ w f v x y e. absurd (true-false e refl)) ▹ (λ w f v x y e. absurd (true-false e refl))
+    ▹ (λ w f v x y e. absurd (true-false e refl)) ▹ (λ w f v x y e. absurd (true-false e refl)) ▹ (λ w f v x y e. absurd (true-false e refl))
+    ▹ (λ w f v x y e. absurd (true-false e refl)) ▹ (λ w f v x y e. absurd (true-false e refl)) ▹ (λ w f v x y e. absurd (true-false e refl))
+    ▹ and-decided ▹ or-decided ▹ (λ w f v x y e. absurd (true-false e refl)) ▹ end)
     (λ w f v x y e. absurd (true-false e refl))
 
 -- ---- the verdicts that matter
 
 -- two lists of verdicts that agree where P says so give one value, if P says so of each rule that is cited
 abbrev Cited : Row → Type 0
-Cited r = (P : ℕ → Bool) (w : Words) (facts u v : List ℤ) (x y : ℤ) → allOf P (r .cites w) ≡ true → ((c : ℕ) → P c ≡ true → getD u c (pos 0) ≡ getD v c (pos 0)) → r .value (seen w facts u x y) ≡ r .value (seen w facts v x y)
+Cited r =
+    (P : ℕ → Bool) (w : Words) (facts u v : List ℤ) (x y : ℤ) → allOf P (r .cites w) ≡ true →
+    ((c : ℕ) → P c ≡ true → getD u c (pos 0) ≡ getD v c (pos 0)) → r .value (seen w facts u x y) ≡ r .value (seen w facts v x y)
 
 present-cited : Cited present
 unfolding allOf
@@ -62,7 +67,9 @@ present-cited P w facts u v x y a h = h (num (w .w1)) (and-left (P (num (w .w1))
 pub cited : (k : ℕ) → Cited (rowOf k)
 cited =
     every Cited
-    ((λ P w f u v x y a h. refl) ▹ (λ P w f u v x y a h. refl) ▹ (λ P w f u v x y a h. refl) ▹ (λ P w f u v x y a h. refl) ▹ (λ P w f u v x y a h. refl) ▹ (λ P w f u v x y a h. refl) ▹ (λ P w f u v x y a h. refl) ▹ (λ P w f u v x y a h. refl) ▹ present-cited ▹ (λ P w f u v x y a h. refl) ▹ (λ P w f u v x y a h. refl) ▹ (λ P w f u v x y a h. refl) ▹ end)
+    ((λ P w f u v x y a h. refl) ▹ (λ P w f u v x y a h. refl) ▹ (λ P w f u v x y a h. refl) ▹ (λ P w f u v x y a h. refl)
+    ▹ (λ P w f u v x y a h. refl) ▹ (λ P w f u v x y a h. refl) ▹ (λ P w f u v x y a h. refl) ▹ (λ P w f u v x y a h. refl) ▹ present-cited
+    ▹ (λ P w f u v x y a h. refl) ▹ (λ P w f u v x y a h. refl) ▹ (λ P w f u v x y a h. refl) ▹ end)
     (λ P w f u v x y a h. refl)
 
 -- ---- only "and" and "or" are decided

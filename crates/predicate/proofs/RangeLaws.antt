@@ -21,7 +21,8 @@ use Rattle.signed.specs.Words.{num, bounded, within}
 use Rattle.layout.specs.declared.Header.{Header}
 use Rattle.layout.specs.Header.{headerOf, firstNode}
 use Rattle.item.specs.declared.Item.{Item}
-use Rattle.item.specs.Items.{none, span, compared, Small}
+use Rattle.item.specs.Items.{none, span, compared}
+use Rattle.item.specs.Inner.{Small}
 use Rattle.node.specs.declared.Given.{Given}
 use Rattle.node.specs.declared.Kids.{Kids}
 use Rattle.node.specs.Rows.{Row, comparison, rowOf, fits}
@@ -73,7 +74,9 @@ module _ {s : List ℤ} {h : Header} (a : Accepted s h) where
   least-in =
       record {
         long = length-grown (λ _ k. minOf s k) (pos 0) (h .facts);
-        each = λ k l. rw (grown-at (λ _ k. minOf s k) (pos 0) (h .facts) k l) (true-in _ _ _ (record { low = le-refl (minOf s k); high = fact-ok s k (a .facts k l) .bounds .order }));
+        each =
+            λ k l. rw (grown-at (λ _ k. minOf s k) (pos 0) (h .facts) k l)
+            (true-in _ _ _ (record { low = le-refl (minOf s k); high = fact-ok s k (a .facts k l) .bounds .order }));
       }
 
   -- 01: "Every node has a value range": one that is not empty
@@ -119,7 +122,8 @@ module _ {s : List ℤ} {h : Header} (a : Accepted s h) where
 
     -- 01: "and 0 if some pair does not", and only then
     pub includes-zero : Within (itemOf s h n) (pos 0) ↔ PairIn op false left right
-    includes-zero = rw compared-is (compared-zero op left right (range-some _ (omega (arith, before .0))) (range-some _ (omega (arith, before .1 .0))))
+    includes-zero =
+        rw compared-is (compared-zero op left right (range-some _ (omega (arith, before .0))) (range-some _ (omega (arith, before .1 .0))))
 
 -- ---- a node's range as it is worked out
 
@@ -135,14 +139,17 @@ module _ {s : List ℤ} {base rules n : ℕ} (v : RangeAt s base rules n) where
   item-small = node-ok s (headerOf s) n (v .accepted .nodes n (v .exists)) .fits
 
   -- what holds of the node by the header holds of it by the first node's record
-  met : {A : Type 0} (Q : Row → Given → A) (x y : Item) (cs : List ℕ) → childrenOf s (headerOf s) n ≡ cs → x ≡ pick item none cs 0 → y ≡ pick item none cs 1
+  met : {A : Type 0} (Q : Row → Given → A) (x y : Item) (cs : List ℕ) → childrenOf s (headerOf s) n ≡ cs → x ≡ pick item none cs 0
+      → y ≡ pick item none cs 1
       → Q (rowAt s (base + n)) (givenAt s base rules (base + n) x y) ≡ Q (nodeRow s (headerOf s) n) (givenOf s (headerOf s) item n)
   met Q x y cs e p q =
       let h = headerOf s in
       ap (λ (b : ℕ). Q (rowAt s (b + n)) (givenAt s b rules (b + n) x y)) (v .first)
       ∙ ap (λ (r : ℕ). Q (nodeRow s h n) (givenAt s (firstNode h) r (firstNode h + n) x y)) (v .cited)
-      ∙ ap (λ (z : Item). Q (nodeRow s h n) (givenAt s (firstNode h) (h .rules) (firstNode h + n) z y)) (p ∙ ap (λ (l : List ℕ). pick item none l 0) (sym e))
-      ∙ ap (λ (z : Item). Q (nodeRow s h n) (givenAt s (firstNode h) (h .rules) (firstNode h + n) (pick item none (childrenOf s h n) 0) z)) (q ∙ ap (λ (l : List ℕ). pick item none l 1) (sym e))
+      ∙ ap (λ (z : Item). Q (nodeRow s h n) (givenAt s (firstNode h) (h .rules) (firstNode h + n) z y))
+      (p ∙ ap (λ (l : List ℕ). pick item none l 0) (sym e))
+      ∙ ap (λ (z : Item). Q (nodeRow s h n) (givenAt s (firstNode h) (h .rules) (firstNode h + n) (pick item none (childrenOf s h n) 0) z))
+      (q ∙ ap (λ (l : List ℕ). pick item none l 1) (sym e))
 
   -- its row takes what it is given, and gives its item
   pub record Ranged (x y : Item) : Type 0 where
@@ -152,7 +159,10 @@ module _ {s : List ℤ} {base rules n : ℕ} (v : RangeAt s base rules n) where
   range-as : (x y : Item) (cs : List ℕ) → childrenOf s (headerOf s) n ≡ cs → x ≡ pick item none cs 0 → y ≡ pick item none cs 1 → Ranged x y
   range-as x y cs e p q =
       let o = node-ok s (headerOf s) n (v .accepted .nodes n (v .exists)) in
-      record { takes = met (λ (r : Row) (g : Given). r .takes g) x y cs e p q ∙ o .takes; gives = met (λ (r : Row) (g : Given). r .gives g) x y cs e p q ∙ sym (o .item) }
+      record {
+        takes = met (λ (r : Row) (g : Given). r .takes g) x y cs e p q ∙ o .takes;
+        gives = met (λ (r : Row) (g : Given). r .gives g) x y cs e p q ∙ sym (o .item);
+      }
 
   module _ (c : Kids) (k : kids c ≡ childrenAt s (base + n)) where
     pub range-none : c .count ≡ 0 → Ranged none none

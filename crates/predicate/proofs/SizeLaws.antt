@@ -40,7 +40,8 @@ sum-same f g (suc n) h = rw (sum-same f g n (λ j l. h j (omega arith)), h n (om
 drop-other : (a : ℕ) (f : ℕ → ℕ) (n : ℕ) → n ≤ a → sumBelow (dropped a f) n ≡ sumBelow f n
 drop-other a f n l = sum-same (dropped a f) f n (λ j q. rw (ne-eqb a j (λ e. omega arith)))
 
-drop-case : (a : ℕ) (f : ℕ → ℕ) (n : ℕ) → (a < n → sumBelow (dropped a f) n + f a ≡ sumBelow f n) → (a < n) ⊎ (a ≡ n) → sumBelow (dropped a f) (suc n) + f a ≡ sumBelow f (suc n)
+drop-case : (a : ℕ) (f : ℕ → ℕ) (n : ℕ) → (a < n → sumBelow (dropped a f) n + f a ≡ sumBelow f n) → (a < n) ⊎ (a ≡ n)
+    → sumBelow (dropped a f) (suc n) + f a ≡ sumBelow f (suc n)
 drop-case a f n ih (inl q) =
     let z : dropped a f n ≡ f n = rw (ne-eqb a n (λ e. omega arith)) in
     omega (arith, ih q, z, sum-suc (dropped a f) n, sum-suc f n)
@@ -73,9 +74,11 @@ free-le true m = omega arith
 free-le false m = omega arith
 
 -- naming the numbers of a list takes their trees away
-named-away : (x : ℕ → Bool) (t : ℕ → List ℕ) (n : ℕ) (cs : List ℕ) → allOf (λ c. ltb c n && not (x c)) cs ≡ true → distinct cs ≡ true → sumBelow (free (λ j. x j || has j cs) (λ j. length (t j))) n + length (joined t cs) ≡ sumBelow (free x (λ j. length (t j))) n
+named-away : (x : ℕ → Bool) (t : ℕ → List ℕ) (n : ℕ) (cs : List ℕ) → allOf (λ c. ltb c n && not (x c)) cs ≡ true → distinct cs ≡ true
+    → sumBelow (free (λ j. x j || has j cs) (λ j. length (t j))) n + length (joined t cs) ≡ sumBelow (free x (λ j. length (t j))) n
 unfolding allOf distinct has joined
-named-away x t n [] p q = omega (arith, sum-same (free (λ j. x j || false) (λ j. length (t j))) (free x (λ j. length (t j))) n (λ j _. rw (or-none (x j))))
+named-away x t n [] p q =
+    omega (arith, sum-same (free (λ j. x j || false) (λ j. length (t j))) (free x (λ j. length (t j))) n (λ j _. rw (or-none (x j))))
 named-away x t n (c ∷ cs) p q =
     let f : ℕ → ℕ = λ j. length (t j) in
     let here = and-left (ltb c n && not (x c)) (allOf (λ c. ltb c n && not (x c)) cs) p in
@@ -88,7 +91,8 @@ named-away x t n (c ∷ cs) p q =
       named-away x t n cs (and-right (ltb c n && not (x c)) (allOf (λ c. ltb c n && not (x c)) cs) p) (and-right (not (has c cs)) (distinct cs) q),
       drop-one c (free (λ j. x j || has j cs) f) n (ltb-true c n (and-left (ltb c n) (not (x c)) here)),
       z,
-      sum-same (free (λ j. x j || (eqb c j || has j cs)) f) (dropped c (free (λ j. x j || has j cs) f)) n (λ j _. or-dropped (x j) (eqb c j) (has j cs) (f j)),
+      sum-same (free (λ j. x j || (eqb c j || has j cs)) f) (dropped c (free (λ j. x j || has j cs) f)) n
+          (λ j _. or-dropped (x j) (eqb c j) (has j cs) (f j)),
     )
 
 -- ---- the size of a tree
@@ -117,7 +121,13 @@ module _ (s : List ℤ) (h : Header) where
     unfolding apart
     apart-small zero l = rw (sum-zero (free (namedByNodes s h zero) size)) (omega arith)
     apart-small (suc n) l =
-        omega (arith, sum-suc (free (namedByNodes s h (suc n)) size) n, free-le (namedByNodes s h (suc n) n) (size n), grows n l, apart-small n (omega arith))
+        omega (
+          arith,
+          sum-suc (free (namedByNodes s h (suc n)) size) n,
+          free-le (namedByNodes s h (suc n) n) (size n),
+          grows n l,
+          apart-small n (omega arith),
+        )
 
     -- the tree under node n has at most n + 1 nodes
     pub size-small : (n : ℕ) → n < h .nodes → treeSize s h n ≤ n + 1

@@ -45,7 +45,8 @@ none-of : Of none (pos 0)
 none-of = record { inside = record { low = le-refl (pos 0); high = le-refl (pos 0) }; bool = λ z. omega arith }
 
 -- what holds of each child's value holds of the one that is picked
-pick-of : (f : ℕ → Item) (g : ℕ → ℤ) (n : ℕ) (cs : List ℕ) (i : ℕ) → Before n cs → ((j : ℕ) → j < n → Of (f j) (g j)) → Of (pick f none cs i) (pick g (pos 0) cs i)
+pick-of : (f : ℕ → Item) (g : ℕ → ℤ) (n : ℕ) (cs : List ℕ) (i : ℕ) → Before n cs → ((j : ℕ) → j < n → Of (f j) (g j))
+    → Of (pick f none cs i) (pick g (pos 0) cs i)
 unfolding pick
 pick-of f g n [] i b h = none-of
 pick-of f g n (c ∷ cs) zero b h = h c (b .0)
@@ -55,7 +56,8 @@ module _ (s : List ℤ) (h : Header) (facts verdicts : List ℤ) where
   abbrev value : ℕ → ℤ
   value n = valueOf s h facts verdicts n
 
-  seen-same : (n : ℕ) → Before n (childrenOf s h n) → (look : ℕ → ℤ) → ((j : ℕ) → j < n → look j ≡ value j) → seenOf s h facts verdicts look n ≡ seenOf s h facts verdicts value n
+  seen-same : (n : ℕ) → Before n (childrenOf s h n) → (look : ℕ → ℤ) → ((j : ℕ) → j < n → look j ≡ value j)
+      → seenOf s h facts verdicts look n ≡ seenOf s h facts verdicts value n
   seen-same n b look e =
       rw (pick-same look value n e (pos 0) (childrenOf s h n) 0 b, pick-same look value n e (pos 0) (childrenOf s h n) 1 b)
 
@@ -76,13 +78,17 @@ module _ (s : List ℤ) (h : Header) (facts verdicts : List ℤ) where
     fact-of k l =
         record {
           inside = fact-in k l;
-          bool = λ e. let q = fact-ok s k (a .facts k l) .bounds .bool e in subst (λ (z : ℤ). In (pos 0) (getD facts k (pos 0)) z) (q .1) (subst (λ (z : ℤ). In z (getD facts k (pos 0)) (maxOf s k)) (q .0) (fact-in k l));
+          bool =
+              λ e. let q = fact-ok s k (a .facts k l) .bounds .bool e in
+              subst (λ (z : ℤ). In (pos 0) (getD facts k (pos 0)) z) (q .1)
+              (subst (λ (z : ℤ). In z (getD facts k (pos 0)) (maxOf s k)) (q .0) (fact-in k l));
         }
 
     named-of : (k : ℕ) → ltb k (h .facts) ≡ true → Of (namedFact s (h .facts) k) (getD facts k (pos 0))
     named-of k e = rw e (fact-of k (ltb-true k (h .facts) e))
 
-    known : (n : ℕ) → n < h .nodes → Before n (childrenOf s h n) → ((j : ℕ) → j < n → Of (itemOf s h j) (value j)) → Known (givenOf s h (itemOf s h) n) facts verdicts (pick value (pos 0) (childrenOf s h n) 0) (pick value (pos 0) (childrenOf s h n) 1)
+    known : (n : ℕ) → n < h .nodes → Before n (childrenOf s h n) → ((j : ℕ) → j < n → Of (itemOf s h j) (value j))
+        → Known (givenOf s h (itemOf s h) n) facts verdicts (pick value (pos 0) (childrenOf s h n) 0) (pick value (pos 0) (childrenOf s h n) 1)
     known n l b ih =
         record {
           fact = named-of (num (nodeWords s h n .w1));
@@ -94,7 +100,8 @@ module _ (s : List ℤ) (h : Header) (facts verdicts : List ℤ) where
     value-step : (n : ℕ) → ((j : ℕ) → j < n → j < h .nodes → Of (itemOf s h j) (value j)) → n < h .nodes → Of (itemOf s h n) (value n)
     value-step n ih l =
         let p = node-ok s h n (a .nodes n l) in
-        rw (p .item, value-is n (p .before)) (lawful _ (givenOf s h (itemOf s h) n) facts verdicts _ _ (known n l (p .before) (λ j q. ih j q (omega arith))) (p .takes))
+        rw (p .item, value-is n (p .before))
+        (lawful _ (givenOf s h (itemOf s h) n) facts verdicts _ _ (known n l (p .before) (λ j q. ih j q (omega arith))) (p .takes))
 
     -- every node's value is of the node's type and range
     pub value-of : (n : ℕ) → n < h .nodes → Of (itemOf s h n) (value n)

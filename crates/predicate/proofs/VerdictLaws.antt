@@ -40,7 +40,8 @@ none-true : Truths []
 unfolding within
 none-true = record { each = λ k. refl }
 
-one-more : (t : List ℤ) (b : Bool) → ((k : ℕ) → within (pos 0) (getD t k (pos 0)) (pos 1) ≡ true) → (k : ℕ) → within (pos 0) (getD (t ++ (bit b ∷ [])) k (pos 0)) (pos 1) ≡ true
+one-more : (t : List ℤ) (b : Bool) → ((k : ℕ) → within (pos 0) (getD t k (pos 0)) (pos 1) ≡ true) → (k : ℕ)
+    → within (pos 0) (getD (t ++ (bit b ∷ [])) k (pos 0)) (pos 1) ≡ true
 one-more [] b h zero = true-in (pos 0) (bit b) (pos 1) (bit-bool b)
 one-more [] b h (suc k) = none-true .each k
 one-more (x ∷ xs) b h zero = h zero
@@ -50,7 +51,8 @@ module _ (s : List ℤ) (h : Header) (facts : List ℤ) where
   pub truths-to : (k : ℕ) → Truths (verdictsTo s h facts k)
   unfolding verdictsTo
   truths-to zero = none-true
-  truths-to (suc k) = record { each = one-more (verdictsTo s h facts k) (truth s h facts (verdictsTo s h facts k) (whenNode s h k)) (truths-to k .each) }
+  truths-to (suc k) =
+      record { each = one-more (verdictsTo s h facts k) (truth s h facts (verdictsTo s h facts k) (whenNode s h k)) (truths-to k .each) }
 
   pub verdicts-true : Truths (verdictsOf s h facts)
   unfolding verdictsOf
@@ -77,18 +79,23 @@ module _ (s : List ℤ) (h : Header) (facts : List ℤ) where
 -- ---- a rule's judgement hangs on the facts and on lower verdicts alone
 
 -- what is picked depends on the numbers in the list alone, all of which pass the test P
-pick-passed : (f g : ℕ → ℤ) (P : ℕ → Bool) (n : ℕ) (cs : List ℕ) (i : ℕ) → Before n cs → allOf P cs ≡ true → ((j : ℕ) → j < n → P j ≡ true → f j ≡ g j) → pick f (pos 0) cs i ≡ pick g (pos 0) cs i
+pick-passed : (f g : ℕ → ℤ) (P : ℕ → Bool) (n : ℕ) (cs : List ℕ) (i : ℕ) → Before n cs → allOf P cs ≡ true
+    → ((j : ℕ) → j < n → P j ≡ true → f j ≡ g j) → pick f (pos 0) cs i ≡ pick g (pos 0) cs i
 unfolding pick allOf
 pick-passed f g P n [] i b p h = refl
 pick-passed f g P n (c ∷ cs) zero b p h = h c (b .0) (and-left (P c) (allOf P cs) p)
 pick-passed f g P n (c ∷ cs) (suc i) b p h = pick-passed f g P n cs i (b .1) (and-right (P c) (allOf P cs) p) h
 
-module _ (s : List ℤ) (h : Header) (facts : List ℤ) (a : Accepted s h) (k : ℕ) (v w : List ℤ) (agree : (c : ℕ) → lower s h k c ≡ true → getD v c (pos 0) ≡ getD w c (pos 0)) where
-  cites-step : (n : ℕ) → ((j : ℕ) → j < n → j < h .nodes → citesLower s h k j ≡ true → valueOf s h facts v j ≡ valueOf s h facts w j) → n < h .nodes → citesLower s h k n ≡ true → valueOf s h facts v n ≡ valueOf s h facts w n
+module _ (s : List ℤ) (h : Header) (facts : List ℤ) (a : Accepted s h) (k : ℕ) (v w : List ℤ)
+    (agree : (c : ℕ) → lower s h k c ≡ true → getD v c (pos 0) ≡ getD w c (pos 0)) where
+  cites-step : (n : ℕ) → ((j : ℕ) → j < n → j < h .nodes → citesLower s h k j ≡ true → valueOf s h facts v j ≡ valueOf s h facts w j) → n < h .nodes
+      → citesLower s h k n ≡ true → valueOf s h facts v n ≡ valueOf s h facts w n
   cites-step n ih l p =
       let b = node-ok s h n (a .nodes n l) .before in
       let below = cites-below s h k n b p in
-      let same : (i : ℕ) → pick (valueOf s h facts v) (pos 0) (childrenOf s h n) i ≡ pick (valueOf s h facts w) (pos 0) (childrenOf s h n) i = λ i. pick-passed (valueOf s h facts v) (valueOf s h facts w) (citesLower s h k) n (childrenOf s h n) i b below (λ j q. ih j q (omega arith)) in
+      let same : (i : ℕ)
+      → pick (valueOf s h facts v) (pos 0) (childrenOf s h n) i ≡ pick (valueOf s h facts w) (pos 0) (childrenOf s h n) i = λ i. pick-passed
+      (valueOf s h facts v) (valueOf s h facts w) (citesLower s h k) n (childrenOf s h n) i b below (λ j q. ih j q (omega arith)) in
       value-is s h facts v n b
       ∙ rw (same 0, same 1) (cited _ (lower s h k) (nodeWords s h n) facts v w _ _ (cites-here s h k n b p) agree)
       ∙ sym (value-is s h facts w n b)
@@ -103,14 +110,17 @@ module _ (s : List ℤ) (h : Header) (facts : List ℤ) (a : Accepted s h) (k : 
 
 module _ (s : List ℤ) (h : Header) (facts : List ℤ) where
   -- so a rule's verdict says whether its when-node is true over the facts and all the verdicts
-  pub verdict-is : Accepted s h → (k : ℕ) → k < h .rules → getD (verdictsOf s h facts) k (pos 0) ≡ bit (truth s h facts (verdictsOf s h facts) (whenNode s h k))
+  pub verdict-is : Accepted s h → (k : ℕ) → k < h .rules
+      → getD (verdictsOf s h facts) k (pos 0) ≡ bit (truth s h facts (verdictsOf s h facts) (whenNode s h k))
   unfolding verdictsOf
   verdict-is a k l =
       verdict-at s h facts (h .rules) k l
-      ∙ rw (verdicts-below s h facts a k (verdictsTo s h facts k) (verdictsTo s h facts (h .rules)) (λ c p. let b = ltb-true c k (and-left (ltb c k) _ p) in verdict-at s h facts k c b ∙ sym (verdict-at s h facts (h .rules) c (omega arith))) l)
+      ∙ rw (verdicts-below s h facts a k (verdictsTo s h facts k) (verdictsTo s h facts (h .rules))
+      (λ c p. let b = ltb-true c k (and-left (ltb c k) _ p) in verdict-at s h facts k c b ∙ sym (verdict-at s h facts (h .rules) c (omega arith))) l)
 
 -- what evaluating a node over the verdicts asks
-pub over-verdicts : {s : List ℤ} {h : Header} {facts : List ℤ} {n : ℕ} → Accepted s h → FactsIn s h facts → n < h .nodes → Evaluable s h facts (verdictsOf s h facts) n
+pub over-verdicts : {s : List ℤ} {h : Header} {facts : List ℤ} {n : ℕ} → Accepted s h → FactsIn s h facts → n < h .nodes
+    → Evaluable s h facts (verdictsOf s h facts) n
 over-verdicts {s} {h} {facts} a f l = record { accepted = a; known = f; judged = verdicts-true s h facts; exists = l }
 
 -- ---- the loop that fills the verdicts
@@ -126,7 +136,8 @@ module _ (s : List ℤ) (h : Header) (facts : List ℤ) (rules : ℕ) where
   unfolding verdictsTo
   none out e = record { here = omega arith; long = e; stored = refl }
 
-  pub more : (k : ℕ) (out : List ℤ) (x : ℤ) → Judged s h facts rules k out → k < rules → x ≡ bit (truth s h facts (take k out) (whenNode s h k)) → Judged s h facts rules (k + 1) (set out k x)
+  pub more : (k : ℕ) (out : List ℤ) (x : ℤ) → Judged s h facts rules k out → k < rules → x ≡ bit (truth s h facts (take k out) (whenNode s h k))
+      → Judged s h facts rules (k + 1) (set out k x)
   unfolding verdictsTo
   more k out x r l e =
       record {
@@ -135,14 +146,16 @@ module _ (s : List ℤ) (h : Header) (facts : List ℤ) (rules : ℕ) where
         stored = rw add-one (take-suc-set out k x (omega (arith, r .long)) ∙ rw (e, r .stored));
       }
 
-pub done : (s : List ℤ) (h : Header) (facts : List ℤ) (k : ℕ) (out : List ℤ) → Judged s h facts (h .rules) k out → h .rules ≤ k → out ≡ verdictsOf s h facts
+pub done : (s : List ℤ) (h : Header) (facts : List ℤ) (k : ℕ) (out : List ℤ) → Judged s h facts (h .rules) k out → h .rules ≤ k
+    → out ≡ verdictsOf s h facts
 unfolding verdictsOf
 done s h facts k out r l =
     let e : k ≡ h .rules = omega (arith, r .here) in
     sym (take-all k out (omega (arith, r .long))) ∙ r .stored ∙ ap (verdictsTo s h facts) e
 
 -- what judging rule k asks
-pub judging : {s : List ℤ} {h : Header} {facts out : List ℤ} {k : ℕ} {rules : ℕ} → Accepted s h → FactsIn s h facts → Judged s h facts rules k out → k < h .rules → Evaluable s h facts (take k out) (whenNode s h k)
+pub judging : {s : List ℤ} {h : Header} {facts out : List ℤ} {k : ℕ} {rules : ℕ} → Accepted s h → FactsIn s h facts → Judged s h facts rules k out
+    → k < h .rules → Evaluable s h facts (take k out) (whenNode s h k)
 judging {s} {h} {facts} {out} {k} a f r l =
     record {
       accepted = a;

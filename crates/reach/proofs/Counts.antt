@@ -86,4 +86,5 @@ module _ (f g : ℕ → Bool) where
 pub count-set : (t : List Bool) (i n : ℕ) → i < n → i < length t → getD t i false ≡ false
     → countBelow (λ q. getD (set t i true) q false) n ≡ countBelow (λ q. getD t q false) n + 1
 count-set t i n l k e =
-    count-one (λ q. getD t q false) (λ q. getD (set t i true) q false) n i l e (getD-set-same t i true false k) (λ q z. getD-set-other t i q true false z)
+    count-one (λ q. getD t q false) (λ q. getD (set t i true) q false) n i l e (getD-set-same t i true false k)
+    (λ q z. getD-set-other t i q true false z)

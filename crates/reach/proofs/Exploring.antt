@@ -37,7 +37,8 @@ pub record Exploring (s : List ℤ) (h : Header) (n : ℕ) (found scanned : List
   pub within : (q : ℕ) → getD scanned q false ≡ true → getD found q false ≡ true
   pub sound : (q : ℕ) → getD found q false ≡ true → Reached s h n q
   pub first : getD found (entity s h n .w1) false ≡ true
-  pub closed : (q : ℕ) → getD scanned q false ≡ true → (k : ℕ) → k < h .transitions → transition s h k .w0 ≡ n → transition s h k .w1 ≡ q → getD found (transition s h k .w2) false ≡ true
+  pub closed : (q : ℕ) → getD scanned q false ≡ true → (k : ℕ) → k < h .transitions → transition s h k .w0 ≡ n → transition s h k .w1 ≡ q
+      → getD found (transition s h k .w2) false ≡ true
   pub fresh : state < 16 → (getD found state false ≡ true) × (getD scanned state false ≡ false)
   pub all : 16 ≤ state → (q : ℕ) → q < 16 → getD found q false ≡ true → getD scanned q false ≡ true
 
@@ -83,7 +84,8 @@ module _ {s : List ℤ} {h : Header} (a : Accepted s h) (n : ℕ) (l : n < h .en
         let e = count-set scanned state 16 m (omega (arith, r .scanned-long)) (r .fresh m .1) in
         omega (arith, e, count-most (λ q. getD (set scanned state true) q false) 16)
 
-    module _ (found′ : List Bool) (state′ : ℕ) (m : state < 16) (w : Spread s h n state found found′) (o : state′ ≡ nextOpen found′ (set scanned state true)) where
+    module _ (found′ : List Bool) (state′ : ℕ) (m : state < 16) (w : Spread s h n state found found′)
+        (o : state′ ≡ nextOpen found′ (set scanned state true)) where
       kept : (q : ℕ) → getD found q false ≡ true → getD found′ q false ≡ true
       kept q p = w .each q (omega (arith, flag-in found q p, r .found-long)) ∙ or-true-left _ _ p
 
@@ -94,7 +96,8 @@ module _ {s : List ℤ} {h : Header} (a : Accepted s h) (n : ℕ) (l : n < h .en
           let t = simp tests at (d .2) in
           subst (Reached s h n) (t .1) (along (r .sound state (r .fresh m .0)) (d .0) (d .1) (t .0 .0) (t .0 .1))
 
-      leads-to : (k : ℕ) → k < h .transitions → transition s h k .w0 ≡ n → transition s h k .w1 ≡ state → getD found′ (transition s h k .w2) false ≡ true
+      leads-to : (k : ℕ) → k < h .transitions → transition s h k .w0 ≡ n → transition s h k .w1 ≡ state
+          → getD found′ (transition s h k .w2) false ≡ true
       unfolding leads leaves
       leads-to k j x y =
           let q = transition s h k .w2 in
@@ -105,7 +108,8 @@ module _ {s : List ℤ} {h : Header} (a : Accepted s h) (n : ℕ) (l : n < h .en
       was q p (yes z) = inl z
       was q p (no x) = inr (sym (getD-set-other scanned state q true false x) ∙ p)
 
-      settled-scanned : (q : ℕ) → settled found′ (set scanned state true) q ≡ true → getD found′ q false ≡ true → getD (set scanned state true) q false ≡ true
+      settled-scanned : (q : ℕ) → settled found′ (set scanned state true) q ≡ true → getD found′ q false ≡ true
+          → getD (set scanned state true) q false ≡ true
       unfolding settled
       settled-scanned q p f = go (getD found′ q false) (getD (set scanned state true) q false) p f
         where
@@ -114,7 +118,8 @@ module _ {s : List ℤ} {h : Header} (a : Accepted s h) (n : ℕ) (l : n < h .en
           go true false p f = p
           go false false p f = f
 
-      unsettled : (q : ℕ) → settled found′ (set scanned state true) q ≡ false → (getD found′ q false ≡ true) × (getD (set scanned state true) q false ≡ false)
+      unsettled : (q : ℕ) → settled found′ (set scanned state true) q ≡ false
+          → (getD found′ q false ≡ true) × (getD (set scanned state true) q false ≡ false)
       unfolding settled
       unsettled q p = go (getD found′ q false) (getD (set scanned state true) q false) p
         where
@@ -131,7 +136,8 @@ module _ {s : List ℤ} {h : Header} (a : Accepted s h) (n : ℕ) (l : n < h .en
             found-long = w .long;
             scanned-long = still-long;
             within = λ q p. ⊎-elim (λ z. rw z (kept state (r .fresh m .0))) (λ z. kept q (r .within q z)) (was q p (ℕ-discrete q state));
-            sound = λ q p. ⊎-elim (λ z. r .sound q z) (λ z. led q z) (or-cases _ _ (sym (w .each q (omega (arith, flag-in found′ q p, w .long))) ∙ p));
+            sound =
+                λ q p. ⊎-elim (λ z. r .sound q z) (λ z. led q z) (or-cases _ _ (sym (w .each q (omega (arith, flag-in found′ q p, w .long))) ∙ p));
             first = kept (entity s h n .w1) (r .first);
             closed = λ q p k j x y. ⊎-elim (λ z. leads-to k j x (y ∙ z)) (λ z. kept _ (r .closed q z k j x y)) (was q p (ℕ-discrete q state));
             fresh = λ j. rw o (unsettled _ (scan .fails (rw o at j)));
@@ -148,4 +154,5 @@ module _ {s : List ℤ} {h : Header} (a : Accepted s h) (n : ℕ) (l : n < h .en
       unfolding reachable
       finished =
           mask-same (λ q. getD found q false) (λ q. getD (flagged s h n 16) q false) 16
-          (λ q k. same-tests (getD found q false) (getD (flagged s h n 16) q false) (λ p. flagged-reached a n l q .1 (r .sound q p)) (λ p. all-found (flagged-reached a n l q .0 p)))
+          (λ q k. same-tests (getD found q false) (getD (flagged s h n 16) q false) (λ p. flagged-reached a n l q .1 (r .sound q p))
+          (λ p. all-found (flagged-reached a n l q .0 p)))

@@ -42,7 +42,8 @@ module _ (s : List ℤ) (h : Header) (n : ℕ) where
   unfolding round
   length-round flags = length-grown (λ (look : ℕ → Bool) (q : ℕ). getD flags q false || anyBelow (enters s h n flags q) (h .transitions)) false 16
 
-  round-at : (flags : List Bool) (q : ℕ) → q < 16 → getD (round s h n flags) q false ≡ (getD flags q false || anyBelow (enters s h n flags q) (h .transitions))
+  round-at : (flags : List Bool) (q : ℕ) → q < 16
+      → getD (round s h n flags) q false ≡ (getD flags q false || anyBelow (enters s h n flags q) (h .transitions))
   unfolding round entry
   round-at flags q l = grown-at (λ (look : ℕ → Bool) (q : ℕ). getD flags q false || anyBelow (enters s h n flags q) (h .transitions)) false 16 q l
 
@@ -51,12 +52,14 @@ module _ (s : List ℤ) (h : Header) (n : ℕ) where
   round-keeps flags q l p = round-at flags q l ∙ or-true-left _ _ p
 
   -- and where a transition leads from a flagged state is flagged
-  round-adds : (flags : List Bool) (k : ℕ) → k < h .transitions → transition s h k .w0 ≡ n → transition s h k .w2 < 16 → getD flags (transition s h k .w1) false ≡ true
+  round-adds : (flags : List Bool) (k : ℕ) → k < h .transitions → transition s h k .w0 ≡ n → transition s h k .w2 < 16
+      → getD flags (transition s h k .w1) false ≡ true
       → getD (round s h n flags) (transition s h k .w2) false ≡ true
   unfolding enters
   round-adds flags k l e m p =
       round-at flags (transition s h k .w2) m
-      ∙ or-true-right (getD flags (transition s h k .w2) false) _ (any-of (enters s h n flags (transition s h k .w2)) (h .transitions) k l (simp tests ((e, refl), p)))
+      ∙ or-true-right (getD flags (transition s h k .w2) false) _
+      (any-of (enters s h n flags (transition s h k .w2)) (h .transitions) k l (simp tests ((e, refl), p)))
 
   -- ---- all rounds
 
@@ -91,7 +94,8 @@ module _ (s : List ℤ) (h : Header) (n : ℕ) where
       ⊎-elim (λ a. sound i q a) (λ b. entered (sound i) (any-at (enters s h n (flagged s h n i) q) (h .transitions) b))
       (or-cases _ _ (sym (round-at (flagged s h n i) q (below (suc i) q p)) ∙ rw (flagged-suc i) at p))
     where
-      entered : ((q : ℕ) → flag i q ≡ true → Reached s h n q) → (k : ℕ) × (k < h .transitions) × (enters s h n (flagged s h n i) q k ≡ true) → Reached s h n q
+      entered : ((q : ℕ) → flag i q ≡ true → Reached s h n q) → (k : ℕ) × (k < h .transitions) × (enters s h n (flagged s h n i) q k ≡ true)
+          → Reached s h n q
       entered ih w =
           let t = simp tests at (w .2) in
           subst (Reached s h n) (t .0 .1) (along (ih (transition s h (w .0) .w1) (t .1)) (w .0) (w .1) (t .0 .0) refl)
@@ -115,9 +119,12 @@ module _ (s : List ℤ) (h : Header) (n : ℕ) where
       go : Dec (count 1 ≤ count 0) → (flagged s h n 1 ≡ flagged s h n 0) ⊎ (0 < count 1)
       go (yes y) = inl (fixed 0 y)
       go (no x) = inr (omega arith)
-  grows (suc i) = ⊎-elim (λ e. inl (rw (flagged-suc (suc i), flagged-suc i) (ap (round s h n) (sym (flagged-suc i) ∙ e)))) (λ l. go l (decLe (count (suc (suc i))) (count (suc i)))) (grows i)
+  grows (suc i) =
+      ⊎-elim (λ e. inl (rw (flagged-suc (suc i), flagged-suc i) (ap (round s h n) (sym (flagged-suc i) ∙ e))))
+      (λ l. go l (decLe (count (suc (suc i))) (count (suc i)))) (grows i)
     where
-      go : i < count (suc i) → Dec (count (suc (suc i)) ≤ count (suc i)) → (flagged s h n (suc (suc i)) ≡ flagged s h n (suc i)) ⊎ (suc i < count (suc (suc i)))
+      go : i < count (suc i) → Dec (count (suc (suc i)) ≤ count (suc i))
+          → (flagged s h n (suc (suc i)) ≡ flagged s h n (suc i)) ⊎ (suc i < count (suc (suc i)))
       go l (yes y) = inl (fixed (suc i) y)
       go l (no x) = inr (omega arith)
 
@@ -142,7 +149,9 @@ module _ {s : List ℤ} {h : Header} (a : Accepted s h) (n : ℕ) (l : n < h .en
 
   -- a state that is reached is flagged
   complete : {q : ℕ} → Reached s h n q → getD (flagged s h n 16) q false ≡ true
-  complete initial = start-stays s h n 16 (entity s h n .w1) (start-at s h n (entity s h n .w1) (reached-below initial) ∙ eq-eqb (entity s h n .w1) (entity s h n .w1) refl)
+  complete initial =
+      start-stays s h n 16 (entity s h n .w1)
+      (start-at s h n (entity s h n .w1) (reached-below initial) ∙ eq-eqb (entity s h n .w1) (entity s h n .w1) refl)
   complete (along r k m e f) =
       let p = complete r in
       let q : getD (flagged s h n 17) (transition s h k .w2) false ≡ true = rw (flagged-suc s h n 16) (round-adds s h n (flagged s h n 16) k m e (reached-below (along r k m e f)) (rw f p)) in

@@ -33,7 +33,8 @@ module _ (s : List ℤ) where
   unfolding checked
   bad-group p q = rw (p, q, checked)
 
-  pub bad-record : goodHeader s ≡ true → goodGroups s (headerOf s) ≡ true → firstBad s (headerOf s) < records (headerOf s) → checked s ≡ Refused (BadRecord (firstBad s (headerOf s)))
+  pub bad-record : goodHeader s ≡ true → goodGroups s (headerOf s) ≡ true → firstBad s (headerOf s) < records (headerOf s)
+      → checked s ≡ Refused (BadRecord (firstBad s (headerOf s)))
   unfolding checked
   bad-record p q l = rw (p, q, lt-ltb (firstBad s (headerOf s)) (records (headerOf s)) l, checked)
 
@@ -73,7 +74,8 @@ module _ (s : List ℤ) (a : checked s ≡ Done) where
   all-good : (j : ℕ) → j < total (tablesOf s (headerOf s)) → goodIn (tablesOf s (headerOf s)) j ≡ true
   unfolding firstBad
   all-good j l =
-      first-scan (goodIn (tablesOf s (headerOf s))) (records (headerOf s)) .passed j (omega arith) (omega (arith, total-records s (headerOf s), none-bad))
+      first-scan (goodIn (tablesOf s (headerOf s))) (records (headerOf s)) .passed j (omega arith)
+      (omega (arith, total-records s (headerOf s), none-bad))
 
 -- every record of an accepted sheet is good
 pub accepted : (s : List ℤ) → checked s ≡ Done → Accepted s (headerOf s)

@@ -55,8 +55,10 @@ first-scanned (later {t = t} {ts = ts} {k = k} h r) =
         subst (λ (i : ℕ). goodIn (t ∷ ts) i ≡ true) e (in-rest t ts (j - t .size) ∙ q .passed (j - t .size) (omega arith) (omega arith))
 
 -- where no record of the chain is bad, none of its first table is, nor of the others
-pub first-good : (t : Table) (ts : List Table) → ((j : ℕ) → j < t .size + total ts → goodIn (t ∷ ts) j ≡ true) → (j : ℕ) → j < t .size → t .good j ≡ true
+pub first-good : (t : Table) (ts : List Table) → ((j : ℕ) → j < t .size + total ts → goodIn (t ∷ ts) j ≡ true) → (j : ℕ) → j < t .size
+    → t .good j ≡ true
 first-good t ts h j l = sym (in-first t ts j l) ∙ h j (omega arith)
 
-pub rest-good : (t : Table) (ts : List Table) → ((j : ℕ) → j < t .size + total ts → goodIn (t ∷ ts) j ≡ true) → (j : ℕ) → j < total ts → goodIn ts j ≡ true
+pub rest-good : (t : Table) (ts : List Table) → ((j : ℕ) → j < t .size + total ts → goodIn (t ∷ ts) j ≡ true) → (j : ℕ) → j < total ts
+    → goodIn ts j ≡ true
 rest-good t ts h j l = sym (in-rest t ts j) ∙ h (t .size + j) (omega arith)

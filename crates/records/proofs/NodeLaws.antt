@@ -14,7 +14,8 @@ use Rattle.tables.proofs.Lists.{Before, all-before, pick-same, joined-same}
 use Rattle.words.specs.Record.{numbersOf, unused}
 use Rattle.layout.specs.declared.Header.{Header}
 use Rattle.item.specs.declared.Item.{Item}
-use Rattle.item.specs.Items.{none, small, Small}
+use Rattle.item.specs.Items.{none, small}
+use Rattle.item.specs.Inner.{Small}
 use Rattle.node.specs.declared.Given.{Given}
 use Rattle.node.specs.Rows.{fits}
 use Rattle.node.proofs.Judged.{small-of}
@@ -66,7 +67,8 @@ module _ (s : List ℤ) (h : Header) (n : ℕ) (good : goodNode s h n ≡ true) 
   takes-good : nodeRow s h n .takes given ≡ true
   unfolding fits
   takes-good =
-      and-right (unused (nodeRow s h n .used) (numbersOf (nodeWords s h n))) (nodeRow s h n .takes given) (and-left _ (small (nodeRow s h n .gives given)) fits-good)
+      and-right (unused (nodeRow s h n .used) (numbersOf (nodeWords s h n))) (nodeRow s h n .takes given)
+      (and-left _ (small (nodeRow s h n .gives given)) fits-good)
 
   small-good : small (nodeRow s h n .gives given) ≡ true
   unfolding fits

@@ -178,7 +178,8 @@ module _ {s : List ℤ} {h : Header} (a : Accepted s h) where
     stays-or-rises e v w =
         let z : suc e - 1 ≡ e = omega arith in
         let q = simp (ne-eqb (suc e) (operation s h o .w2) (λ x. omega (arith, x, v .low)), z, tests) at (good (suc e) w) in
-        ⊎-elim (λ p. inl (eqb-true _ _ p)) (λ p. let r = eqb-true (outcome s h (suc e)) (outcome s h e + 1) p in inr (omega arith)) (or-cases _ _ (q .0 .1 .0 .0))
+        ⊎-elim (λ p. inl (eqb-true _ _ p)) (λ p. let r = eqb-true (outcome s h (suc e)) (outcome s h e + 1) p in inr (omega arith))
+        (or-cases _ _ (q .0 .1 .0 .0))
 
     -- and end at the last
     pub ends-at-last : (e : ℕ) → Of s h o e → suc e ≡ effectsEnd s h o → suc (outcome s h e) ≡ operation s h o .w4
@@ -206,13 +207,17 @@ module _ {s : List ℤ} {h : Header} (a : Accepted s h) where
         (0, w, (let r = rw z at starts-at-zero in omega arith))
     reached (suc e) j w le = go (λ u. reached e j u) (decLt e (operation s h o .w2)) (decLt (outcome s h e) j)
       where
-        go : (Of s h o e → j ≤ outcome s h e → (d : ℕ) × Of s h o d × (outcome s h d ≡ j)) → Dec (e < operation s h o .w2) → Dec (outcome s h e < j) → (d : ℕ) × Of s h o d × (outcome s h d ≡ j)
+        go : (Of s h o e → j ≤ outcome s h e → (d : ℕ) × Of s h o d × (outcome s h d ≡ j)) → Dec (e < operation s h o .w2) → Dec (outcome s h e < j)
+            → (d : ℕ) × Of s h o d × (outcome s h d ≡ j)
         go ih (yes y) c =
             let z : operation s h o .w2 ≡ suc e = omega (arith, w .low) in
             (suc e, w, (let r = rw z at starts-at-zero in omega arith))
         go ih (no n) (no m) = ih (record { low = omega arith; high = omega (arith, w .high) }) (omega arith)
-        go ih (no n) (yes y) =
-            (suc e, w, ⊎-elim (λ p. omega arith) (λ p. omega arith) (stays-or-rises e (record { low = omega arith; high = omega (arith, w .high) }) w))
+        go ih (no n) (yes y) = (
+          suc e,
+          w,
+          ⊎-elim (λ p. omega arith) (λ p. omega arith) (stays-or-rises e (record { low = omega arith; high = omega (arith, w .high) }) w),
+        )
 
     pub each-outcome : (j : ℕ) → j < operation s h o .w4 → (e : ℕ) × Of s h o e × (outcome s h e ≡ j)
     each-outcome j lt =
@@ -222,14 +227,16 @@ module _ {s : List ℤ} {h : Header} (a : Accepted s h) where
         reached e j w (omega (arith, ends-at-last e w (omega arith)))
 
     -- within one outcome an (entity, from) pair occurs once
-    twice : (d e : ℕ) → d < e → Of s h o d → Of s h o e → outcome s h d ≡ outcome s h e → effect s h d .w0 ≡ effect s h e .w0 → effect s h d .w1 ≡ effect s h e .w1 → ⊥
+    twice : (d e : ℕ) → d < e → Of s h o d → Of s h o e → outcome s h d ≡ outcome s h e → effect s h d .w0 ≡ effect s h e .w0
+        → effect s h d .w1 ≡ effect s h e .w1 → ⊥
     unfolding goodEffectOf sameSource
     twice d e lt v w p q r =
         let z = simp tests at (good e w) in
         let f = any-none (sameSource s h e) e (not-flip _ (z .1)) d lt in
         true-false (simp tests (((of-operation o d l v ∙ sym (of-operation o e l w), p), q), r)) f
 
-    pub once : (d e : ℕ) → Of s h o d → Of s h o e → outcome s h d ≡ outcome s h e → effect s h d .w0 ≡ effect s h e .w0 → effect s h d .w1 ≡ effect s h e .w1 → d ≡ e
+    pub once : (d e : ℕ) → Of s h o d → Of s h o e → outcome s h d ≡ outcome s h e → effect s h d .w0 ≡ effect s h e .w0
+        → effect s h d .w1 ≡ effect s h e .w1 → d ≡ e
     once d e v w p q r = go (decLt d e) (decLt e d)
       where
         go : Dec (d < e) → Dec (e < d) → d ≡ e

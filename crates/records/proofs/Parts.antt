@@ -22,10 +22,12 @@ module _ (last : Bool) (before outcomes out : ℕ) where
   unfolding goodOutcome
   outcome-first l = rw (lt-ltb out outcomes l) (sym (mid-yes (eqb out 0) (not last || eqb (out + 1) outcomes)))
 
-  pub outcome-later : out < outcomes → ((eqb out before || eqb out (before + 1)) && (not last || eqb (out + 1) outcomes)) ≡ goodOutcome false last before outcomes out
+  pub outcome-later : out < outcomes
+      → ((eqb out before || eqb out (before + 1)) && (not last || eqb (out + 1) outcomes)) ≡ goodOutcome false last before outcomes out
   unfolding goodOutcome
   outcome-later l = rw (lt-ltb out outcomes l) (sym (mid-yes (eqb out before || eqb out (before + 1)) (not last || eqb (out + 1) outcomes)))
 
   pub outcome-past : (first : Bool) → outcomes ≤ out → false ≡ goodOutcome first last before outcomes out
   unfolding goodOutcome
-  outcome-past first l = rw (le-ltb out outcomes l) (sym (mid-no (cond first (eqb out 0) (eqb out before || eqb out (before + 1))) (not last || eqb (out + 1) outcomes)))
+  outcome-past first l =
+      rw (le-ltb out outcomes l) (sym (mid-no (cond first (eqb out 0) (eqb out before || eqb out (before + 1))) (not last || eqb (out + 1) outcomes)))

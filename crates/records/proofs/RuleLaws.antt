@@ -43,7 +43,9 @@ rule-ok s h k p =
     let q = simp tests at p in
     record {
       small = q .0 .0 .0 .0;
-      rises = λ l. ⊎-elim (λ z. absurd (omega (arith, eqb-true k 0 z))) (λ r. leb-true (stratum s h (k - 1)) (stratum s h k) r) (or-cases (eqb k 0) _ (q .0 .0 .0 .1));
+      rises =
+          λ l. ⊎-elim (λ z. absurd (omega (arith, eqb-true k 0 z))) (λ r. leb-true (stratum s h (k - 1)) (stratum s h k) r)
+          (or-cases (eqb k 0) _ (q .0 .0 .0 .1));
       root = root-ok s h (rule s h k .w1) (namedByRules s h k (rule s h k .w1)) (q .0 .0 .1);
       cites = q .1;
     }
@@ -52,7 +54,9 @@ rule-ok s h k p =
 pub strata-rise : (s : List ℤ) (h : Header) → Accepted s h → (j k : ℕ) → j ≤ k → k < h .rules → stratum s h j ≤ stratum s h k
 strata-rise s h a j zero l q = let e : j ≡ 0 = omega arith in rw e (omega arith)
 strata-rise s h a j (suc k) l q =
-    ⊎-elim (λ b. let z : suc k - 1 ≡ k = omega arith in let r = rw z at (rule-ok s h (suc k) (a .rules (suc k) q) .rises (omega arith)) in omega (arith, strata-rise s h a j k (omega arith) (omega arith))) (λ e. rw e (omega arith)) (below-suc j (suc k) (omega arith))
+    ⊎-elim (λ b. let z : suc k - 1 ≡ k = omega arith in
+    let r = rw z at (rule-ok s h (suc k) (a .rules (suc k) q) .rises (omega arith)) in
+    omega (arith, strata-rise s h a j k (omega arith) (omega arith))) (λ e. rw e (omega arith)) (below-suc j (suc k) (omega arith))
 
 -- what rule k's citations give of a node: it cites lower rules alone, and so do the trees under its children
 module _ (s : List ℤ) (h : Header) (k n : ℕ) (b : Before n (childrenOf s h n)) (p : citesLower s h k n ≡ true) where

@@ -74,7 +74,8 @@ reachable-is s e {h} o p =
 
 -- ---- S3a and S4
 
-pub state-found : (s : List ℤ) (h : Header) (e q : ℤ) {m n : Bool} → m ≡ exists e (h .entities) → m ≡ true → n ≡ exists q (states s h (num e)) → n ≡ stateExists s h e q
+pub state-found : (s : List ℤ) (h : Header) (e q : ℤ) {m n : Bool} → m ≡ exists e (h .entities) → m ≡ true → n ≡ exists q (states s h (num e))
+    → n ≡ stateExists s h e q
 unfolding stateExists
 state-found s h e q k p v = rw (sym k ∙ p) v
 
@@ -91,7 +92,8 @@ pub three : {a b c x y z : Bool} → a ≡ x → b ≡ y → c ≡ z → (a && b
 three p q r = rw (p, q, r)
 
 -- and what holds of them then
-pub admissible-named : (s : List ℤ) (h : Header) (e q p o : ℤ) {i j : ℕ} → admissibleNumbers s e q p o h ≡ true → i ≡ num p → j ≡ num o → (i < h .personas) × (j < h .operations)
+pub admissible-named : (s : List ℤ) (h : Header) (e q p o : ℤ) {i j : ℕ} → admissibleNumbers s e q p o h ≡ true → i ≡ num p → j ≡ num o
+    → (i < h .personas) × (j < h .operations)
 admissible-named s h e q p o k u v = let w = simp tests at k in rw (u, v) (w .0 .1, w .1)
 
 pub cause-named : (s : List ℤ) (h : Header) (p e a b : ℤ) {i : ℕ} → causeNumbers s p e a b h ≡ true → i ≡ num p → i < h .personas

@@ -44,7 +44,8 @@ small s numbers answer k =
     (λ h e. let a = asked s numbers refl e in k h (a .sheet) (a .exist))
 
 -- of one number
-small-on : (answer : List ℤ → Header → ℕ → ℕ) (size : Header → ℕ) (s : List ℤ) (x : ℤ) → ((h : Header) → Accepted s h → (n : ℕ) → n < size h → answer s h n < 2 ^ 63)
+small-on : (answer : List ℤ → Header → ℕ → ℕ) (size : Header → ℕ) (s : List ℤ) (x : ℤ)
+    → ((h : Header) → Accepted s h → (n : ℕ) → n < size h → answer s h n < 2 ^ 63)
     → SmallCount (reported s (λ h. exists x (size h)) (λ h. answer s h (num x)))
 small-on answer size s x k = small s (λ h. exists x (size h)) (λ h. answer s h (num x)) (λ h a e. k h a (num x) (ltb-true (num x) (size h) e))
 
@@ -84,4 +85,5 @@ pub tree-size-small : (s : List ℤ) (n : ℤ) → SmallCount (treeSizeAnswer s 
 tree-size-small s n = small-on treeSize (λ h. h .nodes) s n (λ h a n l. omega (arith, size-small s h a n l, a .sized .limits .nodes))
 
 pub depth-small : (s : List ℤ) (f : ℤ) → SmallCount (depthAnswer s f)
-depth-small s f = small-on depth (λ h. h .flows) s f (λ h a n l. omega (arith, depth-few s h a n l, flow-ok s h a n l .inside, a .sized .limits .steps))
+depth-small s f =
+    small-on depth (λ h. h .flows) s f (λ h a n l. omega (arith, depth-few s h a n l, flow-ok s h a n l .inside, a .sized .limits .steps))

@@ -17,17 +17,26 @@ use Rattle.run.specs.Memo.{Memo}
 
 pub memo-none : (s : List ℤ) (h : Header) (facts verdicts : List ℤ) → Memo s h facts verdicts (replicate 128 false) (replicate 128 false)
 memo-none s h facts verdicts =
-    record { known-long = length-replicate 128 false; holds-long = length-replicate 128 false; right = λ o e. absurd (true-false e (go o (decLt o 128))) }
+    record {
+      known-long = length-replicate 128 false;
+      holds-long = length-replicate 128 false;
+      right = λ o e. absurd (true-false e (go o (decLt o 128)));
+    }
   where
     go : (o : ℕ) → Dec (o < 128) → getD (replicate 128 false) o false ≡ false
     go o (yes l) = getD-replicate 128 o false false l
     go o (no l) = List·getD-eq-default (replicate 128 false) false {n = o} (omega (arith, length-replicate 128 false))
 
 -- operation o's precondition is worked out
-pub memo-more : {s : List ℤ} {h : Header} {facts verdicts : List ℤ} {known holds : List Bool} → Memo s h facts verdicts known holds → (o : ℕ) (b : Bool) → o < 128
+pub memo-more : {s : List ℤ} {h : Header} {facts verdicts : List ℤ} {known holds : List Bool} → Memo s h facts verdicts known holds
+    → (o : ℕ) (b : Bool) → o < 128
     → b ≡ truth s h facts verdicts (precondition s h o) → Memo s h facts verdicts (set known o true) (set holds o b)
 memo-more {s} {h} {facts} {verdicts} {known} {holds} m o b l e =
-    record { known-long = length-set known o true ∙ m .known-long; holds-long = length-set holds o b ∙ m .holds-long; right = λ q k. go q k (ℕ-discrete q o) }
+    record {
+      known-long = length-set known o true ∙ m .known-long;
+      holds-long = length-set holds o b ∙ m .holds-long;
+      right = λ q k. go q k (ℕ-discrete q o);
+    }
   where
     go : (q : ℕ) → getD (set known o true) q false ≡ true → Dec (q ≡ o) → getD (set holds o b) q false ≡ truth s h facts verdicts (precondition s h q)
     go q k (yes z) = rw z (getD-set-same holds o b false (omega (arith, m .holds-long)) ∙ e)

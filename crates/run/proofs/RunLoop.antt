@@ -37,7 +37,8 @@ pub record Ongoing (s : List ℤ) (h : Header) (facts verdicts states₀ : List 
   pub held : Held s h f (running states path w)
   pub rest : runOn s h facts verdicts (stepsOf s h f - w .length) (running states path w) ≡ ran s h facts verdicts states₀ f
 
-module _ {s : List ℤ} {h : Header} {facts verdicts states₀ : List ℤ} {f : ℕ} {b : List ℕ} {w₀ : Walker} (u : Runnable s h facts verdicts states₀ f b) (q₀ : w₀ ≡ started s h f) where
+module _ {s : List ℤ} {h : Header} {facts verdicts states₀ : List ℤ} {f : ℕ} {b : List ℕ} {w₀ : Walker} (u : Runnable s h facts verdicts states₀ f b)
+    (q₀ : w₀ ≡ started s h f) where
   -- the loop knows the flow by its first step
   its-flow : flowOf s h (w₀ .step) ≡ f
   unfolding started
@@ -92,7 +93,8 @@ module _ {s : List ℤ} {h : Header} {facts verdicts states₀ : List ℤ} {f : 
 
       -- where the loop stands after the step
       next : stepped s h facts verdicts (running states path w)
-          ≡ running (statesThen s h facts verdicts states (w .step)) (set path (w .length) (routeTaken s h facts verdicts states (w .step))) (taken s h w (routeTaken s h facts verdicts states (w .step)))
+          ≡ running (statesThen s h facts verdicts states (w .step)) (set path (w .length) (routeTaken s h facts verdicts states (w .step)))
+          (taken s h w (routeTaken s h facts verdicts states (w .step)))
       unfolding stepped taken
       next = rw (add-one, take-suc-set path (w .length) (routeTaken s h facts verdicts states (w .step)) run-room)
 
@@ -114,7 +116,8 @@ module _ {s : List ℤ} {h : Header} {facts verdicts states₀ : List ℤ} {f : 
           }
 
       module _ {r : ℕ} {states′ : List ℤ} {w′ : Walker}
-          (k : r ≡ routeTaken s h facts verdicts states (w .step)) (m : states′ ≡ statesThen s h facts verdicts states (w .step)) (q : w′ ≡ taken s h w r) where
+          (k : r ≡ routeTaken s h facts verdicts states (w .step)) (m : states′ ≡ statesThen s h facts verdicts states (w .step))
+          (q : w′ ≡ taken s h w r) where
         pub run-more : Ongoing s h facts verdicts states₀ (flowOf s h (w₀ .step)) b states′ (set path (w .length) r) w′
         run-more = rw (its-flow, q, k, m) after
 

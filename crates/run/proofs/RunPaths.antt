@@ -31,7 +31,8 @@ module _ (s : List ℤ) (h : Header) (facts verdicts : List ℤ) (t : Running) w
   run-stops zero e = refl
   run-stops (suc n) e = ap (λ (x : Bool). elim x [ true ↦ t | false ↦ runOn s h facts verdicts n (stepped s h facts verdicts t) ]) e
 
-  pub run-steps : (n : ℕ) → t .walker .finished ≡ false → runOn s h facts verdicts (suc n) t ≡ runOn s h facts verdicts n (stepped s h facts verdicts t)
+  pub run-steps : (n : ℕ) → t .walker .finished ≡ false
+      → runOn s h facts verdicts (suc n) t ≡ runOn s h facts verdicts n (stepped s h facts verdicts t)
   unfolding runOn
   run-steps n e = ap (λ (x : Bool). elim x [ true ↦ t | false ↦ runOn s h facts verdicts n (stepped s h facts verdicts t) ]) e
 
@@ -74,7 +75,8 @@ module _ {s : List ℤ} {h : Header} {facts verdicts states : List ℤ} {f : ℕ
   ends zero t k l = ⊎-elim (λ e. (k, e)) (λ e. absurd (omega (arith, held-room k e))) (bool-cases (t .walker .finished))
   ends (suc n) t k l =
       ⊎-elim (λ e. rw (run-stops s h facts verdicts t (suc n) e) (k, e))
-      (λ e. rw (run-steps s h facts verdicts t n e) (ends n (stepped s h facts verdicts t) (held-stepped k e) (omega arith))) (bool-cases (t .walker .finished))
+      (λ e. rw (run-steps s h facts verdicts t n e) (ends n (stepped s h facts verdicts t) (held-stepped k e) (omega arith)))
+      (bool-cases (t .walker .finished))
 
   done : Held s h f (ran s h facts verdicts states f) × (ran s h facts verdicts states f .walker .finished ≡ true)
   unfolding ran
@@ -91,7 +93,9 @@ module _ {s : List ℤ} {h : Header} {facts verdicts states : List ℤ} {f : ℕ
   -- its answer fits a signed word
   pub run-small : SmallWalk (ranWalk s h facts verdicts states f)
   run-small =
-      let z = path-small s h (u .lent .sheet) f (u .lent .flow) (ran s h facts verdicts states f .path) (trail-is-path (u .lent) (done .0 .trail) (done .1)) in
+      let z =
+      path-small s h (u .lent .sheet) f (u .lent .flow) (ran s h facts verdicts states f .path)
+      (trail-is-path (u .lent) (done .0 .trail) (done .1)) in
       rw (run-listed .answers) (omega arith, omega arith)
 
   -- the states afterwards are among their entities' states

@@ -32,11 +32,13 @@ use Rattle.run.specs.Inner.{Steppable}
 -- ---- by the step's kind
 
 module _ (s : List ℤ) (h : Header) (facts verdicts states : List ℤ) (i : ℕ) where
-  pub operation-route : performs s h i ≡ true → routeTaken s h facts verdicts states i ≡ answerRoute s h i (attempted s h facts verdicts states (personaAt s h i) (operationAt s h i))
+  pub operation-route : performs s h i ≡ true
+      → routeTaken s h facts verdicts states i ≡ answerRoute s h i (attempted s h facts verdicts states (personaAt s h i) (operationAt s h i))
   unfolding routeTaken
   operation-route e = rw (e, routeTaken)
 
-  pub operation-states : performs s h i ≡ true → statesThen s h facts verdicts states i ≡ attemptedStates s h facts verdicts states (personaAt s h i) (operationAt s h i)
+  pub operation-states : performs s h i ≡ true
+      → statesThen s h facts verdicts states i ≡ attemptedStates s h facts verdicts states (personaAt s h i) (operationAt s h i)
   unfolding statesThen
   operation-states e = rw (e, statesThen)
 
@@ -105,7 +107,8 @@ module _ {s : List ℤ} {h : Header} {facts verdicts : List ℤ} {i : ℕ} (w : 
             record { ready = record { accepted = w .accepted; lent = v; exists = o }; known = w .known; judged = w .judged; persona = p }
         go (is-branch z o t c) = let k = eqb-true (step s h i .w0) 0 e in absurd (omega arith)
 
-    pub answer-of : performs s h i ≡ true → (r : Count) → attempted s h facts verdicts states (personaAt s h i) (operationAt s h i) ≡ r → RouteOf s h i (answerRoute s h i r)
+    pub answer-of : performs s h i ≡ true → (r : Count) → attempted s h facts verdicts states (personaAt s h i) (operationAt s h i) ≡ r
+        → RouteOf s h i (answerRoute s h i r)
     unfolding answerRoute
     answer-of e (Is j) q = record { low = omega arith; high = omega (arith, operation-routes e, outcome-below (attemptable e) j q) }
     answer-of e (Refused r) q = let k = operation-routes e in record { low = omega arith; high = omega arith }
@@ -113,7 +116,8 @@ module _ {s : List ℤ} {h : Header} {facts verdicts : List ℤ} {i : ℕ} (w : 
     -- the route taken is one of the step's
     pub route-of : RouteOf s h i (routeTaken s h facts verdicts states i)
     route-of =
-        ⊎-elim (λ e. rw (operation-route s h facts verdicts states i e) (answer-of e (attempted s h facts verdicts states (personaAt s h i) (operationAt s h i)) refl))
+        ⊎-elim (λ e. rw (operation-route s h facts verdicts states i e)
+        (answer-of e (attempted s h facts verdicts states (personaAt s h i) (operationAt s h i)) refl))
         (λ e. rw (branch-takes s h facts verdicts states i e) (branch-of e (truth s h facts verdicts (nodeAt s h i)))) (bool-cases (performs s h i))
 
     -- the states afterwards are among their entities' states
@@ -126,7 +130,8 @@ module _ {s : List ℤ} {h : Header} {facts verdicts : List ℤ} {i : ℕ} (w : 
 
 module _ (s : List ℤ) (h : Header) (facts verdicts states : List ℤ) (i : ℕ) where
   -- an operation step
-  pub took-operation : (r : ℕ) (end : List ℤ) → performs s h i ≡ true → r ≡ answerRoute s h i (attempted s h facts verdicts states (personaAt s h i) (operationAt s h i))
+  pub took-operation : (r : ℕ) (end : List ℤ) → performs s h i ≡ true
+      → r ≡ answerRoute s h i (attempted s h facts verdicts states (personaAt s h i) (operationAt s h i))
       → end ≡ attemptedStates s h facts verdicts states (personaAt s h i) (operationAt s h i)
       → (r ≡ routeTaken s h facts verdicts states i) × (end ≡ statesThen s h facts verdicts states i)
   took-operation r end e p q = (p ∙ sym (operation-route s h facts verdicts states i e), q ∙ sym (operation-states s h facts verdicts states i e))
@@ -137,7 +142,8 @@ module _ (s : List ℤ) (h : Header) (facts verdicts states : List ℤ) (i : ℕ
   took-branch r e p = (p ∙ sym (branch-takes s h facts verdicts states i e), sym (branch-states s h facts verdicts states i e))
 
 -- a branch: b is whether its node n is true
-module _ {s : List ℤ} {h : Header} {facts verdicts : List ℤ} {i first n : ℕ} {b : Bool} (w : Steppable s h facts verdicts i) (q : first ≡ firstRouteOf s h i)
+module _ {s : List ℤ} {h : Header} {facts verdicts : List ℤ} {i first n : ℕ} {b : Bool} (w : Steppable s h facts verdicts i)
+    (q : first ≡ firstRouteOf s h i)
     (is-node : n ≡ nodeAt s h i) (is-truth : b ≡ truth s h facts verdicts n) where
   pub on-true : b ≡ true → first ≡ branchRoute s h i (truth s h facts verdicts (nodeAt s h i))
   unfolding branchRoute
@@ -188,7 +194,8 @@ module _ {s : List ℤ} {h : Header} {facts verdicts states : List ℤ} {i first
     by-failure r count z k = (rw (answered ∙ z, q, k), ended)
 
 -- the routes of an operation step are few, and there are two at least
-pub routes-few : {s : List ℤ} {h : Header} {facts verdicts : List ℤ} {i first count : ℕ} → Steppable s h facts verdicts i → performs s h i ≡ true → first ≡ firstRouteOf s h i
+pub routes-few : {s : List ℤ} {h : Header} {facts verdicts : List ℤ} {i first count : ℕ} → Steppable s h facts verdicts i → performs s h i ≡ true
+    → first ≡ firstRouteOf s h i
     → count ≡ routesOf s h i → (first + count ≤ 1024) × (2 ≤ count)
 routes-few {s} {h} {facts} {verdicts} {i} {first} {count} w e q k =
     (omega (arith, q, k, routes-end w, w .accepted .sized .limits .routes), go (step-is s h (w .accepted) i (w .exists)))

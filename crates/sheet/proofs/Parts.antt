@@ -80,14 +80,16 @@ module _ (s : List ℤ) (h : Header) where
   stopped-upper {k} r l = sym (found s h k (part-here (middleTables s h ++ lowerTables s h) r (omega (arith, upper-total))))
 
   module _ {k : ℕ} (r : First (upperTables s h) k) (l : firstEntity h ≤ k) where
-    pub stopped-middle : {m : ℕ} → First (middleTables s h) m → m < h .entities + h .transitions + h .operations + h .effects → firstEntity h + m ≡ firstBad s h
+    pub stopped-middle : {m : ℕ} → First (middleTables s h) m → m < h .entities + h .transitions + h .operations + h .effects
+        → firstEntity h + m ≡ firstBad s h
     unfolding tablesOf
     stopped-middle {m} q x =
         sym (found s h (firstEntity h + m)
         (subst (λ (n : ℕ). First (upperTables s h ++ (middleTables s h ++ lowerTables s h)) (n + m)) upper-total
         (part-later r (omega (arith, upper-total)) (part-here (lowerTables s h) q (omega (arith, middle-total))))))
 
-    pub stopped-lower : {m n : ℕ} → First (middleTables s h) m → h .entities + h .transitions + h .operations + h .effects ≤ m → First (lowerTables s h) n → firstFlow h + n ≡ firstBad s h
+    pub stopped-lower : {m n : ℕ} → First (middleTables s h) m → h .entities + h .transitions + h .operations + h .effects ≤ m
+        → First (lowerTables s h) n → firstFlow h + n ≡ firstBad s h
     unfolding tablesOf
     stopped-lower {m} {n} q x t =
         sym (found s h (firstFlow h + n)
@@ -95,24 +97,28 @@ module _ (s : List ℤ) (h : Header) where
         (part-later r (omega (arith, upper-total)) (part-later q (omega (arith, middle-total)) t))))
 
   -- a middle part without a fault has good operations
-  pub middle-operations : {m : ℕ} → First (middleTables s h) m → h .entities + h .transitions + h .operations + h .effects ≤ m → (k : ℕ) → k < h .operations → goodOperation s h k ≡ true
+  pub middle-operations : {m : ℕ} → First (middleTables s h) m → h .entities + h .transitions + h .operations + h .effects ≤ m → (k : ℕ)
+      → k < h .operations → goodOperation s h k ≡ true
   unfolding total
   middle-operations {m} q x =
-      let h0 : (j : ℕ) → j < total (middleTables s h) → goodIn (middleTables s h) j ≡ true = λ j l. first-scanned q .passed j (omega arith) (omega (arith, middle-total)) in
+      let h0 : (j : ℕ) → j < total (middleTables s h)
+      → goodIn (middleTables s h) j ≡ true = λ j l. first-scanned q .passed j (omega arith) (omega (arith, middle-total)) in
       let h1 = rest-good _ _ h0 in
       let h2 = rest-good _ _ h1 in
       first-good _ _ h2
 
 -- ---- from the nodes' arrays
 
-pub known-of : {s : List ℤ} {h : Header} {lows highs : List ℤ} {sorts tops : List ℕ} {named : List Bool} → Filled s h (h .nodes) lows highs sorts tops named → Known s h sorts tops
+pub known-of : {s : List ℤ} {h : Header} {lows highs : List ℤ} {sorts tops : List ℕ} {named : List Bool}
+    → Filled s h (h .nodes) lows highs sorts tops named → Known s h sorts tops
 known-of f = record { type = λ j l. ap (λ (x : Item). x .sort) (f .item j l); top = f .top }
 
 -- flags by how many they are
 pub own-names : {h : Header} {m : ℕ} {f : ℕ → Bool} {named : List Bool} → Names h m f named → Names h (length named) f named
 own-names {h} {m} {f} {named} n = subst (λ (k : ℕ). Names h k f named) (sym (n .long)) n
 
-pub names-of : {s : List ℤ} {h : Header} {lows highs : List ℤ} {sorts tops : List ℕ} {named : List Bool} → Sized s h → Filled s h (h .nodes) lows highs sorts tops named → Names h (length named) (NamedByNodes s h) named
+pub names-of : {s : List ℤ} {h : Header} {lows highs : List ℤ} {sorts tops : List ℕ} {named : List Bool} → Sized s h
+    → Filled s h (h .nodes) lows highs sorts tops named → Names h (length named) (NamedByNodes s h) named
 names-of z f = own-names (record { room = z .limits .nodes; long = f .name-long; is = f .name })
 
 pub at-most : (f : ℕ → Bool) (n : ℕ) {k : ℕ} → k ≡ firstFail f 0 n → k ≤ n
@@ -127,7 +133,8 @@ own-declared {s} {h} {m} {k} {t} d = subst (λ (n : ℕ). Declared s h n k t) (s
 
 -- ---- arrays as they are made
 
-pub empty-of : {sorts : List ℕ} {named : List Bool} → Fresh sorts named → Empty (replicate 1024 (pos 0)) (replicate 1024 (pos 0)) sorts (replicate 1024 0) named
+pub empty-of : {sorts : List ℕ} {named : List Bool} → Fresh sorts named
+    → Empty (replicate 1024 (pos 0)) (replicate 1024 (pos 0)) sorts (replicate 1024 0) named
 empty-of f = record { low = refl; high = refl; sort = f .sort; top = refl; name = f .name }
 
 pub unmarked : {h : Header} (e : ℕ) → h .entities ≤ e → Unmarked h (replicate (256 * e) false) (replicate (16 * e) 0)

@@ -49,7 +49,8 @@ unfolding goodEffect goodEffectOf
 effect-unused s h e p = let q = simp tests at p in q .0 .0 .1
 
 -- with three of its parts known, an effect is good if its transition is declared and its source is new
-effect-rest : (s : List ℤ) (h : Header) (e : ℕ) → goodChange s h (effect s h e) ≡ true → unused 4 (effect s h e) ≡ true → outcomeTest s h (operationOf s h e) e ≡ true
+effect-rest : (s : List ℤ) (h : Header) (e : ℕ) → goodChange s h (effect s h e) ≡ true → unused 4 (effect s h e) ≡ true
+    → outcomeTest s h (operationOf s h e) e ≡ true
     → goodEffect s h e ≡ (declared s h (h .transitions) (effect s h e) && not (anyBelow (sameSource s h e) e))
 unfolding goodEffect goodEffectOf
 effect-rest s h e a b c = rw (a, b, c) (mid (declared s h (h .transitions) (effect s h e)) (not (anyBelow (sameSource s h e) e)))
@@ -75,11 +76,14 @@ module _ (s : List ℤ) (h : Header) (d : List Bool) (o first end outcomes e bef
   test-is : goodOutcome (eqb e first) (eqb (e + 1) end) before outcomes (outcome s h e) ≡ outcomeTest s h (operationOf s h e) e
   test-is = rw (owner, ← g .ends, ← g .starts, ← g .has) (go (ℕ-discrete e first))
     where
-      go : Dec (e ≡ first) → goodOutcome (eqb e first) (eqb (e + 1) end) before outcomes (outcome s h e) ≡ goodOutcome (eqb e first) (eqb (e + 1) end) (outcome s h (e - 1)) outcomes (outcome s h e)
+      go : Dec (e ≡ first)
+          → goodOutcome (eqb e first) (eqb (e + 1) end) before outcomes (outcome s h e) ≡ goodOutcome (eqb e first) (eqb (e + 1) end)
+          (outcome s h (e - 1)) outcomes (outcome s h e)
       go (yes x) = rw (eq-eqb e first x) (first-any (eqb (e + 1) end) before (outcome s h (e - 1)) outcomes (outcome s h e))
       go (no n) = rw (w .last n)
 
-  module _ {r : Record} {a b c : Bool} {base : ℕ} (eb : base ≡ firstEffect h) (er : r ≡ recordAt s (base + e)) (ea : a ≡ goodChange s h r) (eu : b ≡ unused 4 r)
+  module _ {r : Record} {a b c : Bool} {base : ℕ} (eb : base ≡ firstEffect h) (er : r ≡ recordAt s (base + e)) (ea : a ≡ goodChange s h r)
+      (eu : b ≡ unused 4 r)
       (ec : c ≡ goodOutcome (eqb e first) (eqb (e + 1) end) before outcomes (r .w3)) where
     is : r ≡ effect s h e
     is = er ∙ rw eb
@@ -87,7 +91,8 @@ module _ (s : List ℤ) (h : Header) (d : List Bool) (o first end outcomes e bef
     -- a good effect passes the first tests
     pub stop-first : (a && b && c) ≡ false → goodEffect s h e ≡ true → ⊥
     stop-first p q =
-        true-false (and-true (a && b) c (and-true a b (rw (ea, is) (effect-change s h e q)) (rw (eu, is) (effect-unused s h e q))) (rw (ec, is) (test-is ∙ effect-outcome s h e q))) p
+        true-false (and-true (a && b) c (and-true a b (rw (ea, is) (effect-change s h e q)) (rw (eu, is) (effect-unused s h e q)))
+        (rw (ec, is) (test-is ∙ effect-outcome s h e q))) p
 
     module _ (p : (a && b && c) ≡ true) where
       changed : goodChange s h (effect s h e) ≡ true
@@ -108,8 +113,12 @@ module _ (s : List ℤ) (h : Header) (d : List Bool) (o first end outcomes e bef
       any-is : anyBelow (sameSource s h e) e ≡ eqb (getD t (sourceOf (effect s h e)) 0) (stampOf s h e)
       any-is =
           any-same (sameSource s h e) (λ j. eqb (stampOf s h j) (stampOf s h e) && eqb (sourceOf (effect s h j)) (sourceOf (effect s h e))) e
-          (λ j q. same-source s h e j (out-small s h (z .groups) (z .operations) j (omega (arith, inside)) (effect-outcome s h j (w .seen .good j q))) (out-small s h (z .groups) (z .operations) e inside tested) (small-before j q .from) (small-change s h (effect s h e) (z .entities) changed .from))
-          ∙ any-last s h (sourceOf (effect s h e)) (stampOf s h e) (omega arith) e (ordered s h (z .groups) (z .operations) e (omega (arith, inside)) (w .seen .good)) (ordered-next s h (z .groups) (z .operations) e inside (w .seen .good) tested)
+          (λ j q. same-source s h e j (out-small s h (z .groups) (z .operations) j (omega (arith, inside)) (effect-outcome s h j (w .seen .good j q)))
+          (out-small s h (z .groups) (z .operations) e inside tested) (small-before j q .from)
+          (small-change s h (effect s h e) (z .entities) changed .from))
+          ∙ any-last s h (sourceOf (effect s h e)) (stampOf s h e) (omega arith) e
+          (ordered s h (z .groups) (z .operations) e (omega (arith, inside)) (w .seen .good))
+          (ordered-next s h (z .groups) (z .operations) e inside (w .seen .good) tested)
           ∙ rw (w .seen .stamps (sourceOf (effect s h e)) source-small)
         where
           source-small : sourceOf (effect s h e) < room
@@ -122,7 +131,8 @@ module _ (s : List ℤ) (h : Header) (d : List Bool) (o first end outcomes e bef
         fresh-is : f ≡ goodEffect s h e
         fresh-is =
             let q = simp tests at p in
-            rw (effect-rest s h e changed (rw (← is, ← eu) (q .0 .1)) tested, any-is, ef, stamp-is, is) (rw (z .declared .flags (effect s h e) (rw is at flagged)))
+            rw (effect-rest s h e changed (rw (← is, ← eu) (q .0 .1)) tested, any-is, ef, stamp-is, is)
+            (rw (z .declared .flags (effect s h e) (rw is at flagged)))
 
         pub stop-second : f ≡ false → goodEffect s h e ≡ true → ⊥
         stop-second x y = true-false y (sym fresh-is ∙ x)
@@ -143,16 +153,28 @@ module _ (s : List ℤ) (h : Header) (d : List Bool) (o first end outcomes e bef
             }
           where
             stored : (y : ℕ) → y < room → Dec (sourceOf r ≡ y) → getD (set t (sourceOf r) m) y 0 ≡ lastStamp s h y (e + 1)
-            stored y q (yes v) = rw add-one (unfold lastStamp in rw (← is, eq-eqb (sourceOf r) y v, v) (getD-set-same t y m 0 (omega (arith, w .seen .long)) ∙ (rw (← is) at stamp-is)))
-            stored y q (no v) = rw add-one (unfold lastStamp in rw (← is, ne-eqb (sourceOf r) y v) (getD-set-other t (sourceOf r) y m 0 (λ u. v (sym u)) ∙ w .seen .stamps y q))
+            stored y q (yes v) =
+                rw add-one (unfold lastStamp in
+                rw (← is, eq-eqb (sourceOf r) y v, v) (getD-set-same t y m 0 (omega (arith, w .seen .long)) ∙ (rw (← is) at stamp-is)))
+            stored y q (no v) =
+                rw add-one
+                (unfold lastStamp in rw (← is, ne-eqb (sourceOf r) y v) (getD-set-other t (sourceOf r) y m 0 (λ u. v (sym u)) ∙ w .seen .stamps y q))
 
 -- what the loop returns
-pub stopped : {s : List ℤ} {h : Header} {m first end e before : ℕ} {t : List ℕ} → Turn s h m first end e before t → e < end → (goodEffect s h e ≡ true → ⊥) → Stretch s h m first end e t
+pub stopped : {s : List ℤ} {h : Header} {m first end e before : ℕ} {t : List ℕ} → Turn s h m first end e before t → e < end
+    → (goodEffect s h e ≡ true → ⊥) → Stretch s h m first end e t
 stopped w l n = record { low = w .low; high = w .high; good = w .seen .good; bad = λ _. n; seen = λ x. absurd (omega arith) }
 
-pub finished : {s : List ℤ} {h : Header} {m first end e before : ℕ} {t : List ℕ} → Turn s h m first end e before t → end ≤ e → Stretch s h m first end e t
+pub finished : {s : List ℤ} {h : Header} {m first end e before : ℕ} {t : List ℕ} → Turn s h m first end e before t → end ≤ e
+    → Stretch s h m first end e t
 finished {s} {h} {m} {first} {end} {e} {before} {t} w l =
-    record { low = w .low; high = w .high; good = w .seen .good; bad = λ x y. absurd (omega arith); seen = λ _. subst (λ (n : ℕ). Seen s h m n t) (omega (arith, w .high)) (w .seen) }
+    record {
+      low = w .low;
+      high = w .high;
+      good = w .seen .good;
+      bad = λ x y. absurd (omega arith);
+      seen = λ _. subst (λ (n : ℕ). Seen s h m n t) (omega (arith, w .high)) (w .seen);
+    }
 
 -- ---- operation by operation
 
@@ -166,13 +188,20 @@ set-out s h m t l e =
     rw e (record {
       here = omega arith;
       at = sym (sum-zero (λ k. operation s h k .w3));
-      seen = record { room = l; long = length-replicate {A = ℕ} m 0; stamps = λ x q. getD-replicate {A = ℕ} m x 0 0 q ∙ none x; good = λ j q. absurd (omega arith) };
+      seen =
+          record {
+            room = l;
+            long = length-replicate {A = ℕ} m 0;
+            stamps = λ x q. getD-replicate {A = ℕ} m x 0 0 q ∙ none x;
+            good = λ j q. absurd (omega arith);
+          };
     })
   where
     none : (x : ℕ) → 0 ≡ lastStamp s h x 0
     none x = unfold lastStamp in refl
 
-module _ (s : List ℤ) (h : Header) (d : List Bool) (o first : ℕ) {room : ℕ} (t : List ℕ) (z : BeforeEffects s h d) (w : Walk s h room o first t) (l : o < h .operations)
+module _ (s : List ℤ) (h : Header) (d : List Bool) (o first : ℕ) {room : ℕ} (t : List ℕ) (z : BeforeEffects s h d) (w : Walk s h room o first t)
+    (l : o < h .operations)
     {base m : ℕ} (eb : base ≡ firstOperation h) (em : m ≡ number s (base + o) 3) where
   count-is : m ≡ operation s h o .w3
   count-is = em ∙ rw eb (unfold recordAt in refl)
@@ -203,9 +232,12 @@ module _ (s : List ℤ) (h : Header) (d : List Bool) (o first : ℕ) {room : ℕ
         }
 
     pub found : e < first + m → e ≡ firstFail (goodEffect s h) 0 (h .effects)
-    found q = fail-at (goodEffect s h) (h .effects) e (omega (arith, end-inside)) (x .good) (⊎-elim (λ p. absurd (x .bad q p)) (λ p. p) (bool-cases (goodEffect s h e)))
+    found q =
+        fail-at (goodEffect s h) (h .effects) e (omega (arith, end-inside)) (x .good)
+        (⊎-elim (λ p. absurd (x .bad q p)) (λ p. p) (bool-cases (goodEffect s h e)))
 
-pub arrived : (s : List ℤ) (h : Header) (d : List Bool) (o first : ℕ) {room : ℕ} (t : List ℕ) → BeforeEffects s h d → Walk s h room o first t → h .operations ≤ o → first ≡ firstFail (goodEffect s h) 0 (h .effects)
+pub arrived : (s : List ℤ) (h : Header) (d : List Bool) (o first : ℕ) {room : ℕ} (t : List ℕ) → BeforeEffects s h d → Walk s h room o first t
+    → h .operations ≤ o → first ≡ firstFail (goodEffect s h) 0 (h .effects)
 arrived s h d o first t z w l =
     let e : first ≡ h .effects = w .at ∙ ap (sumBelow (λ k. operation s h k .w3)) (omega (arith, w .here)) ∙ covers s h (z .groups) in
     fail-none (goodEffect s h) (h .effects) first (omega (arith, e)) (omega (arith, e)) (w .seen .good)

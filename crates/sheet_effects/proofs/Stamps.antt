@@ -52,18 +52,28 @@ module _ (s : List ℤ) (h : Header) (groups : goodGroups s h ≡ true) (good : 
 
   pub ends-in : (o : ℕ) → o < h .operations → effectsEnd s h o ≤ h .effects
   ends-in o l =
-      omega (arith, end-is (λ k. operation s h k .w2) (λ k. operation s h k .w3) (h .operations) starts o l, sum-mono (λ k. operation s h k .w3) (suc o) (h .operations) l, covers s h groups)
+      omega (
+        arith,
+        end-is (λ k. operation s h k .w2) (λ k. operation s h k .w3) (h .operations) starts o l,
+        sum-mono (λ k. operation s h k .w3) (suc o) (h .operations) l,
+        covers s h groups,
+      )
 
   -- the next operation starts where this one ends
   pub next-start : (o : ℕ) → o + 1 < h .operations → operation s h (o + 1) .w2 ≡ effectsEnd s h o
-  next-start o l = starts (o + 1) l ∙ sym (end-is (λ k. operation s h k .w2) (λ k. operation s h k .w3) (h .operations) starts o (omega arith) ∙ ap (sumBelow (λ k. operation s h k .w3)) (omega arith))
+  next-start o l =
+      starts (o + 1) l
+      ∙ sym (end-is (λ k. operation s h k .w2) (λ k. operation s h k .w3) (h .operations) starts o (omega arith)
+      ∙ ap (sumBelow (λ k. operation s h k .w3)) (omega arith))
 
   pub first-start : 0 < h .operations → operation s h 0 .w2 ≡ 0
   first-start l = starts 0 l ∙ Rattle.tables.proofs.Scans.sum-zero (λ k. operation s h k .w3)
 
   pub last-end : (o : ℕ) → o + 1 ≡ h .operations → effectsEnd s h o ≡ h .effects
   last-end o e =
-      end-is (λ k. operation s h k .w2) (λ k. operation s h k .w3) (h .operations) starts o (omega arith) ∙ ap (sumBelow (λ k. operation s h k .w3)) (omega arith) ∙ covers s h groups
+      end-is (λ k. operation s h k .w2) (λ k. operation s h k .w3) (h .operations) starts o (omega arith)
+      ∙ ap (sumBelow (λ k. operation s h k .w3)) (omega arith)
+      ∙ covers s h groups
 
 -- ---- the outcome test
 
@@ -84,7 +94,8 @@ outcome-rises : (last : Bool) (before outcomes out : ℕ) → goodOutcome false 
 unfolding goodOutcome
 outcome-rises last before outcomes out p =
     let q = simp tests at p in
-    ⊎-elim (λ e. omega (arith, eqb-true out before e)) (λ e. omega (arith, eqb-true out (before + 1) e)) (or-cases (eqb out before) (eqb out (before + 1)) (q .0 .0))
+    ⊎-elim (λ e. omega (arith, eqb-true out before e)) (λ e. omega (arith, eqb-true out (before + 1) e))
+    (or-cases (eqb out before) (eqb out (before + 1)) (q .0 .0))
 
 pub effect-outcome : (s : List ℤ) (h : Header) (e : ℕ) → goodEffect s h e ≡ true → outcomeTest s h (operationOf s h e) e ≡ true
 unfolding goodEffect goodEffectOf
@@ -98,7 +109,8 @@ module _ (s : List ℤ) (h : Header) (groups : goodGroups s h ≡ true) (good : 
   out-small e l p =
       omega (arith, outcome-below _ _ _ _ _ p, few-outcomes s h (operationOf s h e) (good (operationOf s h e) (exists s h groups good e l)))
 
-  rise : (j : ℕ) → suc j < h .effects → outcome s h j < 8 → outcomeTest s h (operationOf s h (suc j)) (suc j) ≡ true → stampOf s h j ≤ stampOf s h (suc j)
+  rise : (j : ℕ) → suc j < h .effects → outcome s h j < 8 → outcomeTest s h (operationOf s h (suc j)) (suc j) ≡ true
+      → stampOf s h j ≤ stampOf s h (suc j)
   rise j l few p = go (eqb (suc j) (operation s h (operationOf s h (suc j)) .w2)) refl
     where
       back : suc j - 1 ≡ j
@@ -114,7 +126,8 @@ module _ (s : List ℤ) (h : Header) (groups : goodGroups s h ≡ true) (good : 
           let low = begins s h groups good j (omega arith) in
           apart (ℕ-discrete (operationOf s h j) (operationOf s h (suc j))) w low
         where
-          apart : Dec (operationOf s h j ≡ operationOf s h (suc j)) → suc j ≡ operation s h (operationOf s h (suc j)) .w2 → operation s h (operationOf s h j) .w2 ≤ j → stampOf s h j ≤ stampOf s h (suc j)
+          apart : Dec (operationOf s h j ≡ operationOf s h (suc j)) → suc j ≡ operation s h (operationOf s h (suc j)) .w2
+              → operation s h (operationOf s h j) .w2 ≤ j → stampOf s h j ≤ stampOf s h (suc j)
           apart (yes x) w low = absurd (omega (arith, rw x at low, w))
           apart (no n) w low = omega (arith, mono, n)
       go false e = let r = outcome-rises _ _ _ _ (rw (e, back) at p) in omega (arith, mono, r)
@@ -127,13 +140,23 @@ module _ (s : List ℤ) (h : Header) (groups : goodGroups s h ≡ true) (good : 
       go : (i ≤ j → j < e → stampOf s h i ≤ stampOf s h j) → Dec (i ≡ suc j) → stampOf s h i ≤ stampOf s h (suc j)
       go ih (yes x) = rw x (omega arith)
       go ih (no n) =
-          omega (arith, ih (omega arith) (omega arith), rise j (omega arith) (out-small j (omega arith) (effect-outcome s h j (all j (omega arith)))) (effect-outcome s h (suc j) (all (suc j) l)))
+          omega (
+            arith,
+            ih (omega arith) (omega arith),
+            rise j (omega arith) (out-small j (omega arith) (effect-outcome s h j (all j (omega arith))))
+                (effect-outcome s h (suc j) (all (suc j) l)),
+          )
 
   -- and to the next, once its outcome has passed
-  pub ordered-next : (e : ℕ) → e < h .effects → ((j : ℕ) → j < e → goodEffect s h j ≡ true) → outcomeTest s h (operationOf s h e) e ≡ true → (i : ℕ) → i < e → stampOf s h i ≤ stampOf s h e
+  pub ordered-next : (e : ℕ) → e < h .effects → ((j : ℕ) → j < e → goodEffect s h j ≡ true) → outcomeTest s h (operationOf s h e) e ≡ true → (i : ℕ)
+      → i < e → stampOf s h i ≤ stampOf s h e
   ordered-next zero l all p i a = absurd (omega arith)
   ordered-next (suc e) l all p i a =
-      omega (arith, ordered (suc e) (omega arith) all e i (omega arith) (omega arith), rise e l (out-small e (omega arith) (effect-outcome s h e (all e (omega arith)))) p)
+      omega (
+        arith,
+        ordered (suc e) (omega arith) all e i (omega arith) (omega arith),
+        rise e l (out-small e (omega arith) (effect-outcome s h e (all e (omega arith)))) p,
+      )
 
 -- ---- the last stamp tells
 
@@ -141,16 +164,19 @@ module _ (s : List ℤ) (h : Header) (x S : ℕ) (positive : 0 < S) where
   abbrev hit : ℕ → Bool
   hit j = eqb (stampOf s h j) S && eqb (sourceOf (effect s h j)) x
 
-  pub any-last : (k : ℕ) → ((j i : ℕ) → i ≤ j → j < k → stampOf s h i ≤ stampOf s h j) → ((j : ℕ) → j < k → stampOf s h j ≤ S) → anyBelow hit k ≡ eqb (lastStamp s h x k) S
+  pub any-last : (k : ℕ) → ((j i : ℕ) → i ≤ j → j < k → stampOf s h i ≤ stampOf s h j) → ((j : ℕ) → j < k → stampOf s h j ≤ S)
+      → anyBelow hit k ≡ eqb (lastStamp s h x k) S
   unfolding anyBelow lastStamp
   any-last zero o m = sym (ne-eqb 0 S (λ z. omega (arith, z)))
   any-last (suc k) o m =
-      go (any-last k (λ j i a l. o j i a (omega arith)) (λ j l. m j (omega arith))) (ℕ-discrete (sourceOf (effect s h k)) x) (ℕ-discrete (stampOf s h k) S)
+      go (any-last k (λ j i a l. o j i a (omega arith)) (λ j l. m j (omega arith))) (ℕ-discrete (sourceOf (effect s h k)) x)
+      (ℕ-discrete (stampOf s h k) S)
     where
       none : (stampOf s h k ≡ S → ⊥) → anyBelow hit k ≡ false
       none n = none-any hit k (λ j l. rw (ne-eqb (stampOf s h j) S (λ e. n (omega (arith, o k j (omega arith) (omega arith), m k (omega arith), e)))))
 
-      go : anyBelow hit k ≡ eqb (lastStamp s h x k) S → Dec (sourceOf (effect s h k) ≡ x) → Dec (stampOf s h k ≡ S) → (anyBelow hit k || hit k) ≡ eqb (cond (eqb (sourceOf (effect s h k)) x) (stampOf s h k) (lastStamp s h x k)) S
+      go : anyBelow hit k ≡ eqb (lastStamp s h x k) S → Dec (sourceOf (effect s h k) ≡ x) → Dec (stampOf s h k ≡ S)
+          → (anyBelow hit k || hit k) ≡ eqb (cond (eqb (sourceOf (effect s h k)) x) (stampOf s h k) (lastStamp s h x k)) S
       go ih (yes a) (yes b) = rw (eq-eqb (sourceOf (effect s h k)) x a, eq-eqb (stampOf s h k) S b) (or-true (anyBelow hit k))
       go ih (yes a) (no b) = rw (eq-eqb (sourceOf (effect s h k)) x a, ne-eqb (stampOf s h k) S b, none b)
       go ih (no a) d = rw (ne-eqb (sourceOf (effect s h k)) x a) (rw (no-and (eqb (stampOf s h k) S)) (or-false (anyBelow hit k) ∙ ih))
@@ -167,10 +193,18 @@ same-source s h e j a b c d = same-tests _ _ to from
   where
     to : (eqb (operationOf s h j) (operationOf s h e) && eqb (outcome s h j) (outcome s h e) && eqb (effect s h j .w0) (effect s h e .w0) && eqb (effect s h j .w1) (effect s h e .w1)) ≡ true
         → (eqb (stampOf s h j) (stampOf s h e) && eqb (sourceOf (effect s h j)) (sourceOf (effect s h e))) ≡ true
-    to p = let q = simp tests at p in rw (eq-eqb (stampOf s h j) (stampOf s h e) (omega (arith, q)), eq-eqb (sourceOf (effect s h j)) (sourceOf (effect s h e)) (omega (arith, q)))
+    to p =
+        let q = simp tests at p in
+        rw (eq-eqb (stampOf s h j) (stampOf s h e) (omega (arith, q)), eq-eqb (sourceOf (effect s h j)) (sourceOf (effect s h e)) (omega (arith, q)))
 
     from : (eqb (stampOf s h j) (stampOf s h e) && eqb (sourceOf (effect s h j)) (sourceOf (effect s h e))) ≡ true
-        → (eqb (operationOf s h j) (operationOf s h e) && eqb (outcome s h j) (outcome s h e) && eqb (effect s h j .w0) (effect s h e .w0) && eqb (effect s h j .w1) (effect s h e .w1)) ≡ true
+        → (eqb (operationOf s h j) (operationOf s h e) && eqb (outcome s h j) (outcome s h e) && eqb (effect s h j .w0) (effect s h e .w0) && eqb
+        (effect s h j .w1) (effect s h e .w1)) ≡ true
     from p =
         let q = simp tests at p in
-        rw (eq-eqb (operationOf s h j) (operationOf s h e) (omega (arith, q .0)), eq-eqb (outcome s h j) (outcome s h e) (omega (arith, q .0)), eq-eqb (effect s h j .w0) (effect s h e .w0) (omega (arith, q .1)), eq-eqb (effect s h j .w1) (effect s h e .w1) (omega (arith, q .1)))
+        rw (
+          eq-eqb (operationOf s h j) (operationOf s h e) (omega (arith, q .0)),
+          eq-eqb (outcome s h j) (outcome s h e) (omega (arith, q .0)),
+          eq-eqb (effect s h j .w0) (effect s h e .w0) (omega (arith, q .1)),
+          eq-eqb (effect s h j .w1) (effect s h e .w1) (omega (arith, q .1)),
+        )

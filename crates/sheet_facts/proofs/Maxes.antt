@@ -81,7 +81,8 @@ sort-other s k d = few (number s k 0) (setOf s k) d
     few (suc (suc (suc t))) u d = unfold factTypeOf in omega arith
 
 -- two facts agree unless both are Enums of one set with two maxes
-agree-enum : (s : List ℤ) (j k : ℕ) → agree s j k ≡ true → fact s j .w0 ≡ 2 → fact s k .w0 ≡ 2 → fact s j .w5 ≡ fact s k .w5 → fact s j .w2 ≡ fact s k .w2
+agree-enum : (s : List ℤ) (j k : ℕ) → agree s j k ≡ true → fact s j .w0 ≡ 2 → fact s k .w0 ≡ 2 → fact s j .w5 ≡ fact s k .w5
+    → fact s j .w2 ≡ fact s k .w2
 unfolding agree recordAt
 agree-enum s j k p a b e =
     let enum : isEnum (factSort s j) ≡ true = le-leb 2 (factSort s j) (omega (arith, sort-enum s j a)) in
@@ -92,11 +93,15 @@ enum-agree : (s : List ℤ) (j k : ℕ) → (fact s j .w0 ≡ 2 → fact s k .w0
 unfolding agree
 enum-agree s j k h = go (ℕ-discrete (fact s j .w0) 2) (ℕ-discrete (fact s k .w0) 2) (ℕ-discrete (fact s j .w5) (fact s k .w5))
   where
-    apart : (factSort s j ≡ factSort s k → ⊥) → (not (isEnum (factSort s j) && eqb (factSort s j) (factSort s k)) || eqZ (maxOf s j) (maxOf s k)) ≡ true
+    apart : (factSort s j ≡ factSort s k → ⊥)
+        → (not (isEnum (factSort s j) && eqb (factSort s j) (factSort s k)) || eqZ (maxOf s j) (maxOf s k)) ≡ true
     apart d = rw (ne-eqb (factSort s j) (factSort s k) d, and-no (isEnum (factSort s j)))
 
-    go : Dec (fact s j .w0 ≡ 2) → Dec (fact s k .w0 ≡ 2) → Dec (fact s j .w5 ≡ fact s k .w5) → (not (isEnum (factSort s j) && eqb (factSort s j) (factSort s k)) || eqZ (maxOf s j) (maxOf s k)) ≡ true
-    go (yes a) (yes b) (yes e) = or-true-right (not (isEnum (factSort s j) && eqb (factSort s j) (factSort s k))) (eqZ (maxOf s j) (maxOf s k)) (true-eq (maxOf s j) (maxOf s k) (h a b e))
+    go : Dec (fact s j .w0 ≡ 2) → Dec (fact s k .w0 ≡ 2) → Dec (fact s j .w5 ≡ fact s k .w5)
+        → (not (isEnum (factSort s j) && eqb (factSort s j) (factSort s k)) || eqZ (maxOf s j) (maxOf s k)) ≡ true
+    go (yes a) (yes b) (yes e) =
+        or-true-right (not (isEnum (factSort s j) && eqb (factSort s j) (factSort s k))) (eqZ (maxOf s j) (maxOf s k))
+        (true-eq (maxOf s j) (maxOf s k) (h a b e))
     go (no a) d f = rw (lt-leb 2 (factSort s j) (omega (arith, sort-other s j a)))
     go (yes a) (no b) f = apart (λ z. omega (arith, sort-enum s j a, sort-other s k b, z))
     go (yes a) (yes b) (no e) = apart (λ z. e (omega (arith, sort-enum s j a, sort-enum s k b, z)))
@@ -145,7 +150,8 @@ judged s k t n = ⊎-elim yes′ no′ (bool-cases (goodAlone s k))
     no′ a = rw a
 
 -- a good fact has the max of every earlier Enum of its set
-agreed : (s : List ℤ) (k : ℕ) → goodFact s k ≡ true → (j : ℕ) → j < k → fact s j .w0 ≡ 2 → fact s k .w0 ≡ 2 → fact s j .w5 ≡ fact s k .w5 → fact s j .w2 ≡ fact s k .w2
+agreed : (s : List ℤ) (k : ℕ) → goodFact s k ≡ true → (j : ℕ) → j < k → fact s j .w0 ≡ 2 → fact s k .w0 ≡ 2 → fact s j .w5 ≡ fact s k .w5
+    → fact s j .w2 ≡ fact s k .w2
 unfolding goodFact goodAlone
 agreed s k g j l x y e =
     agree-enum s j k
@@ -164,11 +170,13 @@ more s k t n g = go (ℕ-discrete (fact s k .w0) 2)
     own : fact s k .w0 ≡ 2 → getD (set t (fact s k .w5) (fact s k .w2)) (fact s k .w5) 0 ≡ fact s k .w2
     own e = getD-set-same t (fact s k .w5) (fact s k .w2) 0 (omega (arith, n .long, alone-set s k m e))
 
-    older : fact s k .w0 ≡ 2 → (j : ℕ) → j < k → fact s j .w0 ≡ 2 → Dec (fact s j .w5 ≡ fact s k .w5) → getD (set t (fact s k .w5) (fact s k .w2)) (fact s j .w5) 0 ≡ fact s j .w2
+    older : fact s k .w0 ≡ 2 → (j : ℕ) → j < k → fact s j .w0 ≡ 2 → Dec (fact s j .w5 ≡ fact s k .w5)
+        → getD (set t (fact s k .w5) (fact s k .w2)) (fact s j .w5) 0 ≡ fact s j .w2
     older e j l x (yes z) = rw z (own e ∙ sym (agreed s k g j l x e z))
     older e j l x (no z) = getD-set-other t (fact s k .w5) (fact s j .w5) (fact s k .w2) 0 z ∙ n .held j l x
 
-    newer : fact s k .w0 ≡ 2 → (x : ℕ) → x < 128 → Dec (x ≡ fact s k .w5) → (getD (set t (fact s k .w5) (fact s k .w2)) x 0 ≡ 256) ⊎ Source s (k + 1) x (getD (set t (fact s k .w5) (fact s k .w2)) x 0)
+    newer : fact s k .w0 ≡ 2 → (x : ℕ) → x < 128 → Dec (x ≡ fact s k .w5)
+        → (getD (set t (fact s k .w5) (fact s k .w2)) x 0 ≡ 256) ⊎ Source s (k + 1) x (getD (set t (fact s k .w5) (fact s k .w2)) x 0)
     newer e x l (yes z) = inr (record { j = k; before = omega arith; enum = e; set = sym z; max = rw z (sym (own e)) })
     newer e x l (no z) = rw (getD-set-other t (fact s k .w5) x (fact s k .w2) 0 z) (⊎-elim (λ y. inl y) (λ w. inr (later w)) (n .some x l))
 
@@ -183,7 +191,9 @@ more s k t n g = go (ℕ-discrete (fact s k .w0) 2)
     go (yes e) =
         rw (eq-eqb (fact s k .w0) 2 e) (record {
           long = length-set t (fact s k .w5) (fact s k .w2) ∙ n .long;
-          held = extend-one (λ (j : ℕ). fact s j .w0 ≡ 2 → getD (set t (fact s k .w5) (fact s k .w2)) (fact s j .w5) 0 ≡ fact s j .w2) k (λ j l x. older e j l x (ℕ-discrete (fact s j .w5) (fact s k .w5))) (λ x. own e);
+          held =
+              extend-one (λ (j : ℕ). fact s j .w0 ≡ 2 → getD (set t (fact s k .w5) (fact s k .w2)) (fact s j .w5) 0 ≡ fact s j .w2) k
+              (λ j l x. older e j l x (ℕ-discrete (fact s j .w5) (fact s k .w5))) (λ x. own e);
           some = λ x l. newer e x l (ℕ-discrete x (fact s k .w5));
           good = extend-one (λ (j : ℕ). goodFact s j ≡ true) k (n .good) g;
         })

@@ -59,7 +59,15 @@ module _ (s : List ℤ) (h : Header) (k sum : ℕ) (w : Turn s h k sum) (l : k <
   test = rw (eu, is, w .is)
 
   pub fits : goodGroups s h ≡ true → sum + r .w1 ≤ h .steps
-  fits g = omega (arith, w .is, rw (← is) at (steps-of s h k), sum-more (stepCount s h) k, sum-mono (stepCount s h) (k + 1) (h .flows) (omega arith), covers-steps s h g)
+  fits g =
+      omega (
+        arith,
+        w .is,
+        rw (← is) at (steps-of s h k),
+        sum-more (stepCount s h) k,
+        sum-mono (stepCount s h) (k + 1) (h .flows) (omega arith),
+        covers-steps s h g,
+      )
 
   pub again : (eqb (r .w0) sum && leb 1 (r .w1) && u) ≡ true → Turn s h (k + 1) (sum + r .w1)
   again p =

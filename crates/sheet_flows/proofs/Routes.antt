@@ -58,7 +58,8 @@ pub record Turn (s : List ℤ) (h : Header) (first end k : ℕ) : Type 0 where
 pub begin : (s : List ℤ) (h : Header) (first end : ℕ) → first ≤ end → Turn s h first end first
 begin s h first end l = record { low = omega arith; high = l; good = λ j p q. absurd (omega arith) }
 
-module _ (s : List ℤ) (h : Header) (i last first end k : ℕ) (z : FlowsGood s h) (a : StepAt s h i last first end) (w : Turn s h first end k) (l : k < end) where
+module _ (s : List ℤ) (h : Header) (i last first end k : ℕ) (z : FlowsGood s h) (a : StepAt s h i last first end) (w : Turn s h first end k)
+    (l : k < end) where
   pub inside : k < h .routes
   inside = omega (arith, routes-inside s h z i (a .here), a .ends)
 
@@ -92,7 +93,15 @@ pub record Walk (s : List ℤ) (h : Header) (i k : ℕ) (c : Cursor) : Type 0 wh
 
 pub set-out : (s : List ℤ) (h : Header) → Walk s h 0 0 (record { flows = 0; last = 0 })
 set-out s h =
-    record { here = omega arith; at = sym (sum-zero (routeCount s h)); few = omega arith; sum = sym (sum-zero (stepCount s h)); reached = omega arith; within = λ f e. absurd (omega (arith, e)); good = λ j l. absurd (omega arith) }
+    record {
+      here = omega arith;
+      at = sym (sum-zero (routeCount s h));
+      few = omega arith;
+      sum = sym (sum-zero (stepCount s h));
+      reached = omega arith;
+      within = λ f e. absurd (omega (arith, e));
+      good = λ j l. absurd (omega arith);
+    }
 
 pub room : (s : List ℤ) (h : Header) (i k : ℕ) (c : Cursor) → FlowsGood s h → Walk s h i k c → i < h .steps → Room s h c i
 room s h i k c z w l = record { ready = z; here = l; few = w .few; sum = w .sum; reached = w .reached; within = w .within }
@@ -123,14 +132,28 @@ settled s h c i r = go (ℕ-discrete i (c .last))
     go (yes e) =
         let more = left-over s h c i r e in
         let some = rw (steps-of s h (c .flows)) at (flow-some s h (c .flows) (r .ready .flows (c .flows) more)) in
-        rw (eq-eqb i (c .last) e) (record { f = c .flows; is = refl; few = more; sum = rw (sum-more (stepCount s h) (c .flows), r .sum); low = omega (arith, r .sum, e); high = omega (arith, some, e) })
+        rw (eq-eqb i (c .last) e) (record {
+          f = c .flows;
+          is = refl;
+          few = more;
+          sum = rw (sum-more (stepCount s h) (c .flows), r .sum);
+          low = omega (arith, r .sum, e);
+          high = omega (arith, some, e);
+        })
     go (no n) = rw (ne-eqb i (c .last) n) (pick (c .flows) refl)
       where
         pick : (m : ℕ) → c .flows ≡ m → Settled s h c i
         pick zero e = absurd (n (omega (arith, r .reached, r .sum ∙ ap (sumBelow (stepCount s h)) e ∙ sum-zero (stepCount s h))))
         pick (suc f) e =
             let e′ : c .flows ≡ f + 1 = omega (arith, e) in
-            record { f = f; is = e′; few = omega (arith, r .few, e); sum = r .sum ∙ ap (sumBelow (stepCount s h)) e′; low = r .within f e′; high = omega (arith, r .reached, n) }
+            record {
+              f = f;
+              is = e′;
+              few = omega (arith, r .few, e);
+              sum = r .sum ∙ ap (sumBelow (stepCount s h)) e′;
+              low = r .within f e′;
+              high = omega (arith, r .reached, n);
+            }
 
 module _ (s : List ℤ) (h : Header) (i k : ℕ) (c : Cursor) (z : FlowsGood s h) (w : Walk s h i k c) (l : i < h .steps)
     {d : Cursor} (ed : d ≡ moved s h c i) {base m : ℕ} (eb : base ≡ firstStep h) (em : m ≡ number s (base + i) 4) where
@@ -141,7 +164,15 @@ module _ (s : List ℤ) (h : Header) (i k : ℕ) (c : Cursor) (z : FlowsGood s h
   now-at = rw ed (settled s h c i (room s h i k c z w l))
 
   pub end-inside : k + m ≤ h .routes
-  end-inside = omega (arith, w .at, count-is, sum-more (routeCount s h) i, sum-mono (routeCount s h) (i + 1) (h .steps) (omega arith), covers-routes s h (z .groups))
+  end-inside =
+      omega (
+        arith,
+        w .at,
+        count-is,
+        sum-more (routeCount s h) i,
+        sum-mono (routeCount s h) (i + 1) (h .steps) (omega arith),
+        covers-routes s h (z .groups),
+      )
 
   pub at-step : StepAt s h i (d .last) k (k + m)
   at-step =
@@ -181,11 +212,18 @@ module _ (s : List ℤ) (h : Header) (i k : ℕ) (c : Cursor) (z : FlowsGood s h
         both j b (yes p) = w .good j p
         both j b (no n) = x .good j (omega arith) b
 
-pub arrived : (s : List ℤ) (h : Header) (i k : ℕ) (c : Cursor) → FlowsGood s h → Walk s h i k c → h .steps ≤ i → k ≡ firstFail (goodRoute s h) 0 (h .routes)
+pub arrived : (s : List ℤ) (h : Header) (i k : ℕ) (c : Cursor) → FlowsGood s h → Walk s h i k c → h .steps ≤ i
+    → k ≡ firstFail (goodRoute s h) 0 (h .routes)
 arrived s h i k c z w l =
     let e : k ≡ h .routes = w .at ∙ ap (sumBelow (routeCount s h)) (omega (arith, w .here)) ∙ covers-routes s h (z .groups) in
     fail-none (goodRoute s h) (h .routes) k (omega (arith, e)) (omega (arith, e)) (w .good)
 
 pub last-inside : (s : List ℤ) (h : Header) (c : Cursor) (i : ℕ) → Room s h c i → i ≡ c .last → c .last + stepCount s h (c .flows) ≤ h .steps
 last-inside s h c i r e =
-    omega (arith, r .sum, sum-more (stepCount s h) (c .flows), sum-mono (stepCount s h) (c .flows + 1) (h .flows) (omega (arith, left-over s h c i r e)), covers-steps s h (r .ready .groups))
+    omega (
+      arith,
+      r .sum,
+      sum-more (stepCount s h) (c .flows),
+      sum-mono (stepCount s h) (c .flows + 1) (h .flows) (omega (arith, left-over s h c i r e)),
+      covers-steps s h (r .ready .groups),
+    )

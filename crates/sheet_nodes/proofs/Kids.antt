@@ -56,7 +56,8 @@ has-kids x c = go (c .count) (c .first) (c .second)
     go (suc zero) a b = refl
     go (suc (suc k)) a b = rw (one-two k .0, one-two k .1) (tail (eqb a x) (eqb b x))
 
-pub greatest-kids : (f : ℕ → ℕ) (c : Kids) → greatest f (kids c) ≡ max (cond (ltb 0 (c .count)) (f (c .first)) 0) (cond (ltb 1 (c .count)) (f (c .second)) 0)
+pub greatest-kids : (f : ℕ → ℕ) (c : Kids)
+    → greatest f (kids c) ≡ max (cond (ltb 0 (c .count)) (f (c .first)) 0) (cond (ltb 1 (c .count)) (f (c .second)) 0)
 unfolding greatest
 greatest-kids f c = go (c .count) (c .first) (c .second)
   where
@@ -66,7 +67,8 @@ greatest-kids f c = go (c .count) (c .first) (c .second)
     go (suc (suc k)) a b = rw (one-two k .0, one-two k .1) (omega arith)
 
 pub linked-is : (n : ℕ) (named : ℕ → Bool) (c : Kids)
-    → ((ltb (c .count) 1 || (ltb (c .first) n && not (named (c .first)))) && (ltb (c .count) 2 || ((ltb (c .second) n && not (named (c .second))) && not (eqb (c .second) (c .first)))))
+    → ((ltb (c .count) 1 || (ltb (c .first) n && not (named (c .first))))
+    && (ltb (c .count) 2 || ((ltb (c .second) n && not (named (c .second))) && not (eqb (c .second) (c .first)))))
     ≡ goodChildren n named (kids c)
 unfolding goodChildren allOf distinct has
 linked-is n named c = go (c .count) (c .first) (c .second)
@@ -81,7 +83,9 @@ linked-is n named c = go (c .count) (c .first) (c .second)
     two true false r = refl
     two false q r = refl
 
-    go : (k a b : ℕ) → ((ltb k 1 || (ltb a n && not (named a))) && (ltb k 2 || ((ltb b n && not (named b)) && not (eqb b a)))) ≡ (allOf (λ c. ltb c n && not (named c)) (upTo k a b) && distinct (upTo k a b))
+    go : (k a b : ℕ)
+        → ((ltb k 1 || (ltb a n && not (named a))) && (ltb k 2 || ((ltb b n && not (named b)) && not (eqb b a))))
+        ≡ (allOf (λ c. ltb c n && not (named c)) (upTo k a b) && distinct (upTo k a b))
     go zero a b = refl
     go (suc zero) a b = one (ltb a n && not (named a))
     go (suc (suc k)) a b = rw (few-two k .0, few-two k .1) (two (ltb a n && not (named a)) (ltb b n && not (named b)) (eqb b a))

@@ -35,7 +35,8 @@ unfolding greatest
 greatest-same f g n [] h b = refl
 greatest-same f g n (c ∷ cs) h b = rw (h c (b .0), greatest-same f g n cs h (b .1))
 
-pub top-is : (s : List ℤ) (h : Header) (n : ℕ) → Before n (childrenOf s h n) → topOf s h n ≡ max (ownTop s h n) (greatest (topOf s h) (childrenOf s h n))
+pub top-is : (s : List ℤ) (h : Header) (n : ℕ) → Before n (childrenOf s h n)
+    → topOf s h n ≡ max (ownTop s h n) (greatest (topOf s h) (childrenOf s h n))
 unfolding topOf greatest
 top-is s h n b = ap (greatest (ownTop s h)) (tree-is s h n b) ∙ ap (max (ownTop s h n)) (greatest-joined (ownTop s h) (treeOf s h) (childrenOf s h n))
 

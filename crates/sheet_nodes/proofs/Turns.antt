@@ -24,7 +24,8 @@ use Rattle.signed.specs.Words.{bounded, within, num}
 use Rattle.words.specs.declared.Words.{Words}
 use Rattle.layout.specs.declared.Header.{Header}
 use Rattle.item.specs.declared.Item.{Item}
-use Rattle.item.specs.Items.{none, Small}
+use Rattle.item.specs.Items.{none}
+use Rattle.item.specs.Inner.{Small}
 use Rattle.node.specs.declared.Given.{Given}
 use Rattle.node.specs.declared.Judgement.{Judgement}
 use Rattle.node.specs.declared.Kids.{Kids}
@@ -65,7 +66,9 @@ module _ (s : List ℤ) (h : Header) (b : Begun s h) (n : ℕ) (good : (j : ℕ)
       step : (j : ℕ) → ((i : ℕ) → i < j → i < n → itemOf s h i .sort ≤ 129) → j < n → itemOf s h j .sort ≤ 129
       step j ih l =
           let o = node-ok s h j (good j l) in
-          rw (o .item) (sort-few _ (givenOf s h (itemOf s h) j) (fact-few s h b _) (pick-all (λ (x : Item). x .sort ≤ 129) (itemOf s h) none j (childrenOf s h j) 0 (omega arith) (λ i q. ih i q (omega arith)) (o .before)) (o .takes))
+          rw (o .item) (sort-few _ (givenOf s h (itemOf s h) j) (fact-few s h b _)
+          (pick-all (λ (x : Item). x .sort ≤ 129) (itemOf s h) none j (childrenOf s h j) 0 (omega arith) (λ i q. ih i q (omega arith)) (o .before))
+          (o .takes))
 
 -- a verdict-present cites a rule that exists
 cited-small : (k : ℕ) (g : Given) → rowOf k .takes g ≡ true → k ≡ 8 → num (g .words .w1) < g .rules
@@ -89,11 +92,13 @@ module _ (s : List ℤ) (h : Header) (b : Begun s h) (n : ℕ) (good : (j : ℕ)
       step j ih l =
           let o = node-ok s h j (good j l) in
           let own : ownTop s h j ≤ 128 = rw (sym (own-is (num (nodeWords s h j .w0)) (nodeWords s h j))) (own-few _ (givenOf s h (itemOf s h) j) (o .takes) (b .sized .limits .rules)) in
-          rw (top-is s h j (o .before)) (omega (arith, own, greatest-few (topOf s h) 128 j (childrenOf s h j) (λ i q. ih i q (omega arith)) (o .before)))
+          rw (top-is s h j (o .before))
+          (omega (arith, own, greatest-few (topOf s h) 128 j (childrenOf s h j) (λ i q. ih i q (omega arith)) (o .before)))
 
 -- ---- before the first node
 
-pub begin : (s : List ℤ) (h : Header) {lows highs : List ℤ} {sorts tops : List ℕ} {named : List Bool} → Empty lows highs sorts tops named → Filled s h 0 lows highs sorts tops named
+pub begin : (s : List ℤ) (h : Header) {lows highs : List ℤ} {sorts tops : List ℕ} {named : List Bool} → Empty lows highs sorts tops named
+    → Filled s h 0 lows highs sorts tops named
 begin s h e =
     rw (e .low, e .high, e .sort, e .top, e .name) (record {
       low-long = length-replicate 1024 (pos 0);
@@ -115,7 +120,8 @@ all-ext f g [] e = refl
 all-ext f g (c ∷ cs) e = rw (e c, all-ext f g cs e)
 
 -- an entry more
-entry-more : {A : Type 0} (f : ℕ → A) (d : A) (t : List A) (n : ℕ) (v : A) → n < length t → v ≡ f n → ((j : ℕ) → j < n → getD t j d ≡ f j) → (j : ℕ) → j < suc n → getD (set t n v) j d ≡ f j
+entry-more : {A : Type 0} (f : ℕ → A) (d : A) (t : List A) (n : ℕ) (v : A) → n < length t → v ≡ f n → ((j : ℕ) → j < n → getD t j d ≡ f j) → (j : ℕ)
+    → j < suc n → getD (set t n v) j d ≡ f j
 entry-more f d t n v l e h j q = ⊎-elim older newer (below-suc j n q)
   where
     older : j < n → getD (set t n v) j d ≡ f j
@@ -124,7 +130,8 @@ entry-more f d t n v l e h j q = ⊎-elim older newer (below-suc j n q)
     newer : j ≡ n → getD (set t n v) j d ≡ f j
     newer z = rw z (getD-set-same t n v d l ∙ e)
 
-module _ (s : List ℤ) (h : Header) (n : ℕ) {lows highs : List ℤ} {sorts tops : List ℕ} {named : List Bool} (t : Turn s h n lows highs sorts tops named) where
+module _ (s : List ℤ) (h : Header) (n : ℕ) {lows highs : List ℤ} {sorts tops : List ℕ} {named : List Bool}
+    (t : Turn s h n lows highs sorts tops named) where
   abbrev f : Filled s h n lows highs sorts tops named
   f = t .filled
 
@@ -133,7 +140,9 @@ module _ (s : List ℤ) (h : Header) (n : ℕ) {lows highs : List ℤ} {sorts to
 
   children-same : (cs : List ℕ) → goodChildren n (λ a. getD named a false) cs ≡ goodChildren n (namedByNodes s h n) cs
   unfolding goodChildren
-  children-same cs = ap (λ (b : Bool). b && distinct cs) (all-ext (λ c. ltb c n && not (getD named c false)) (λ c. ltb c n && not (namedByNodes s h n c)) cs (λ c. one c (decLt c n)))
+  children-same cs =
+      ap (λ (b : Bool). b && distinct cs)
+      (all-ext (λ c. ltb c n && not (getD named c false)) (λ c. ltb c n && not (namedByNodes s h n c)) cs (λ c. one c (decLt c n)))
     where
       one : (c : ℕ) → Dec (c < n) → (ltb c n && not (getD named c false)) ≡ (ltb c n && not (namedByNodes s h n c))
       one c (yes q) = rw (f .name c (omega (arith, few)))
@@ -225,7 +234,9 @@ module _ (s : List ℤ) (h : Header) (n : ℕ) {lows highs : List ℤ} {sorts to
 
             pub rule-small : {i : ℕ} → i ≡ num (w .w1) → k ≡ 8 → i < 128
             rule-small {i} ei e =
-                let m = cited-small (num (nodeWords s h n .w0)) (givenOf s h (itemOf s h) n) (node-ok s h n good-now .takes) (ap (λ (z : Words). num (z .w0)) (sym ew) ∙ sym ek ∙ e) in
+                let m =
+                cited-small (num (nodeWords s h n .w0)) (givenOf s h (itemOf s h) n) (node-ok s h n good-now .takes)
+                (ap (λ (z : Words). num (z .w0)) (sym ew) ∙ sym ek ∙ e) in
                 rw (ei, ew) (omega (arith, m, t .begun .sized .limits .rules))
 
             pub storable : Storable n (r .item) lows highs sorts
@@ -237,22 +248,28 @@ module _ (s : List ℤ) (h : Header) (n : ℕ) {lows highs : List ℤ} {sorts to
                   few = rw item-now (item-few s h (t .begun) (suc n) good-all n (omega arith));
                 }
 
-            module _ {i own top : ℕ} (ei : i ≡ num (w .w1)) (eo : own ≡ cond (eqb k 8) (suc i) 0) (et : top ≡ max own (greatest (λ j. getD tops j 0) (kids c))) where
+            module _ {i own top : ℕ} (ei : i ≡ num (w .w1)) (eo : own ≡ cond (eqb k 8) (suc i) 0)
+                (et : top ≡ max own (greatest (λ j. getD tops j 0) (kids c))) where
               top-now : top ≡ topOf s h n
               top-now =
                   et
-                  ∙ rw (eo, ei, own-is k w, greatest-same (λ j. getD tops j 0) (topOf s h) n (kids c) (f .top) before-kids, children-are, ek, ew) (sym (top-is s h n before))
+                  ∙ rw (eo, ei, own-is k w, greatest-same (λ j. getD tops j 0) (topOf s h) n (kids c) (f .top) before-kids, children-are, ek, ew)
+                  (sym (top-is s h n before))
 
               pub top-room : (n < length tops) × (top < 256)
               top-room = (omega (arith, few, f .top-long), rw top-now (omega (arith, top-few s h (t .begun) (suc n) good-all n (omega arith))))
 
-              names-now : (a : ℕ) → a < 1024 → getD (marked (ltb 1 (c .count)) (c .second) (marked (ltb 0 (c .count)) (c .first) named)) a false ≡ namedByNodes s h (suc n) a
+              names-now : (a : ℕ) → a < 1024
+                  → getD (marked (ltb 1 (c .count)) (c .second) (marked (ltb 0 (c .count)) (c .first) named)) a false ≡ namedByNodes s h (suc n) a
               unfolding namedByNodes anyBelow
               names-now a v =
-                  marked-flags (λ a. anyBelow (λ j. has a (childrenOf s h j)) n || (ltb 0 (c .count) && eqb (c .first) a)) (ltb 1 (c .count)) (c .second) (marked (ltb 0 (c .count)) (c .first) named)
-                  (λ a u. marked-flags (λ a. anyBelow (λ j. has a (childrenOf s h j)) n) (ltb 0 (c .count)) (c .first) named (λ a y. f .name a (omega (arith, f .name-long))) a (rw (length-marked (ltb 0 (c .count)) (c .first) named) at u)) a
+                  marked-flags (λ a. anyBelow (λ j. has a (childrenOf s h j)) n || (ltb 0 (c .count) && eqb (c .first) a)) (ltb 1 (c .count))
+                  (c .second) (marked (ltb 0 (c .count)) (c .first) named)
+                  (λ a u. marked-flags (λ a. anyBelow (λ j. has a (childrenOf s h j)) n) (ltb 0 (c .count)) (c .first) named
+                  (λ a y. f .name a (omega (arith, f .name-long))) a (rw (length-marked (ltb 0 (c .count)) (c .first) named) at u)) a
                   (rw (length-marked (ltb 0 (c .count)) (c .first) named) (omega (arith, f .name-long)))
-                  ∙ or-assoc (anyBelow (λ j. has a (childrenOf s h j)) n) (ltb 0 (c .count) && eqb (c .first) a) (ltb 1 (c .count) && eqb (c .second) a)
+                  ∙ or-assoc (anyBelow (λ j. has a (childrenOf s h j)) n) (ltb 0 (c .count) && eqb (c .first) a)
+                  (ltb 1 (c .count) && eqb (c .second) a)
                   ∙ ap (λ (b : Bool). anyBelow (λ j. has a (childrenOf s h j)) n || b) (sym (has-kids a c) ∙ ap (has a) children-are)
 
               pub more : Filled s h (suc n) (set lows n (r .item .low)) (set highs n (r .item .high)) (set sorts n (r .item .sort)) (set tops n top) (marked (ltb 1 (c .count)) (c .second) (marked (ltb 0 (c .count)) (c .first) named))
@@ -262,12 +279,18 @@ module _ (s : List ℤ) (h : Header) (n : ℕ) {lows highs : List ℤ} {sorts to
                     high-long = length-set highs n (r .item .high) ∙ f .high-long;
                     sort-long = length-set sorts n (r .item .sort) ∙ f .sort-long;
                     top-long = length-set tops n top ∙ f .top-long;
-                    name-long = length-marked (ltb 1 (c .count)) (c .second) (marked (ltb 0 (c .count)) (c .first) named) ∙ length-marked (ltb 0 (c .count)) (c .first) named ∙ f .name-long;
+                    name-long =
+                        length-marked (ltb 1 (c .count)) (c .second) (marked (ltb 0 (c .count)) (c .first) named)
+                        ∙ length-marked (ltb 0 (c .count)) (c .first) named
+                        ∙ f .name-long;
                     item = λ j l.
                         rw (
-                          entry-more (λ j. itemOf s h j .sort) 0 sorts n (r .item .sort) (omega (arith, few, f .sort-long)) (ap (λ (x : Item). x .sort) item-now) (λ j m. ap (λ (x : Item). x .sort) (f .item j m)) j l,
-                          entry-more (λ j. itemOf s h j .low) (pos 0) lows n (r .item .low) (omega (arith, few, f .low-long)) (ap (λ (x : Item). x .low) item-now) (λ j m. ap (λ (x : Item). x .low) (f .item j m)) j l,
-                          entry-more (λ j. itemOf s h j .high) (pos 0) highs n (r .item .high) (omega (arith, few, f .high-long)) (ap (λ (x : Item). x .high) item-now) (λ j m. ap (λ (x : Item). x .high) (f .item j m)) j l,
+                          entry-more (λ j. itemOf s h j .sort) 0 sorts n (r .item .sort) (omega (arith, few, f .sort-long))
+                              (ap (λ (x : Item). x .sort) item-now) (λ j m. ap (λ (x : Item). x .sort) (f .item j m)) j l,
+                          entry-more (λ j. itemOf s h j .low) (pos 0) lows n (r .item .low) (omega (arith, few, f .low-long))
+                              (ap (λ (x : Item). x .low) item-now) (λ j m. ap (λ (x : Item). x .low) (f .item j m)) j l,
+                          entry-more (λ j. itemOf s h j .high) (pos 0) highs n (r .item .high) (omega (arith, few, f .high-long))
+                              (ap (λ (x : Item). x .high) item-now) (λ j m. ap (λ (x : Item). x .high) (f .item j m)) j l,
                         );
                     top = entry-more (topOf s h) 0 tops n top (omega (arith, few, f .top-long)) top-now (f .top);
                     name = names-now;
@@ -278,7 +301,8 @@ module _ (s : List ℤ) (h : Header) (n : ℕ) {lows highs : List ℤ} {sorts to
               good-is-true = sym good-now
 
 -- after the last node
-pub finish : (s : List ℤ) (h : Header) (n : ℕ) {lows highs : List ℤ} {sorts tops : List ℕ} {named : List Bool} → Filled s h n lows highs sorts tops named → n ≤ h .nodes → h .nodes ≤ n → Filled s h (h .nodes) lows highs sorts tops named
+pub finish : (s : List ℤ) (h : Header) (n : ℕ) {lows highs : List ℤ} {sorts tops : List ℕ} {named : List Bool}
+    → Filled s h n lows highs sorts tops named → n ≤ h .nodes → h .nodes ≤ n → Filled s h (h .nodes) lows highs sorts tops named
 finish s h n {lows} {highs} {sorts} {tops} {named} f a b =
     let e : n ≡ h .nodes = omega arith in
     subst (λ (m : ℕ). Filled s h m lows highs sorts tops named) e f

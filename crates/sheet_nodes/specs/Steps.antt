@@ -12,7 +12,8 @@ use Rattle.words.specs.declared.Words.{Words}
 use Rattle.layout.specs.declared.Header.{Header}
 use Rattle.layout.specs.Sized.{Sized}
 use Rattle.item.specs.declared.Item.{Item}
-use Rattle.item.specs.Items.{none, Small}
+use Rattle.item.specs.Items.{none}
+use Rattle.item.specs.Inner.{Small}
 use Rattle.node.specs.declared.Given.{Given}
 use Rattle.node.specs.declared.Kids.{Kids}
 use Rattle.node.specs.Judged.{SmallKids}

@@ -34,15 +34,18 @@ module _ (s : List ℤ) (h : Header) (k : ℕ) (rising : (i j : ℕ) → i ≤ j
       none : eqb u 0 ≡ true → (eqb (suc t) 0 || leb (suc t) k && ltb (stratum s h (suc t - 1)) (stratum s h k)) ≡ true
       none e = absurd (omega (arith, eqb-true u 0 e))
 
-      some : (leb u k && ltb (stratum s h (u - 1)) (stratum s h k)) ≡ true → (eqb (suc t) 0 || leb (suc t) k && ltb (stratum s h (suc t - 1)) (stratum s h k)) ≡ true
+      some : (leb u k && ltb (stratum s h (u - 1)) (stratum s h k)) ≡ true
+          → (eqb (suc t) 0 || leb (suc t) k && ltb (stratum s h (suc t - 1)) (stratum s h k)) ≡ true
       some e =
           let q = simp tests at e in
           let r = rising (suc t - 1) (u - 1) (omega arith) (omega (arith, q .0)) in
-          or-true-right (eqb (suc t) 0) _ (and-true _ _ (le-leb (suc t) k (omega (arith, q .0))) (lt-ltb (stratum s h (suc t - 1)) (stratum s h k) (omega (arith, q .1, r))))
+          or-true-right (eqb (suc t) 0) _
+          (and-true _ _ (le-leb (suc t) k (omega (arith, q .0))) (lt-ltb (stratum s h (suc t - 1)) (stratum s h k) (omega (arith, q .1, r))))
 
   low-max : (x y : ℕ) → low (max x y) ≡ (low x && low y)
   low-max x y =
-      same-tests (low (max x y)) (low x && low y) (λ p. and-true (low x) (low y) (low-down x (max x y) (omega arith) p) (low-down y (max x y) (omega arith) p)) (λ p. pick (decLe x y) p)
+      same-tests (low (max x y)) (low x && low y)
+      (λ p. and-true (low x) (low y) (low-down x (max x y) (omega arith) p) (low-down y (max x y) (omega arith) p)) (λ p. pick (decLe x y) p)
     where
       pick : Dec (x ≤ y) → (low x && low y) ≡ true → low (max x y) ≡ true
       pick (yes l) p = let e : max x y ≡ y = omega arith in rw e (and-right (low x) (low y) p)
@@ -67,7 +70,8 @@ module _ (s : List ℤ) (h : Header) (k : ℕ) (rising : (i j : ℕ) → i ≤ j
 
   pub cites-is : (n : ℕ) → citesLower s h k n ≡ low (topOf s h n)
   unfolding citesLower topOf
-  cites-is n = low-all (λ m. allOf (lower s h k) (citedBy s h m)) (ownTop s h) (treeOf s h n) (λ m. low-all (lower s h k) suc (citedBy s h m) low-rule)
+  cites-is n =
+      low-all (λ m. allOf (lower s h k) (citedBy s h m)) (ownTop s h) (treeOf s h n) (λ m. low-all (lower s h k) suc (citedBy s h m) low-rule)
 
 -- strata rise along good rules, and to the next once it has been tested
 rise-at : (s : List ℤ) (h : Header) (k : ℕ) → goodRule s h (suc k) ≡ true → stratum s h k ≤ stratum s h (suc k)

@@ -37,11 +37,14 @@ begin s h named n =
     record {
       here = omega arith;
       is = sym (sum-zero (effectCount s h));
-      names = renamed n (λ a. sym (ap (λ t. namedByRules s h (h .rules) a || t) (any-zero (λ j. eqb (operation s h j .w1) a)) ∙ or-false (namedByRules s h (h .rules) a)));
+      names =
+          renamed n (λ a. sym
+          (ap (λ t. namedByRules s h (h .rules) a || t) (any-zero (λ j. eqb (operation s h j .w1) a)) ∙ or-false (namedByRules s h (h .rules) a)));
       good = λ j l. absurd (omega arith);
     }
 
-name-operation : (s : List ℤ) (h : Header) (k a : ℕ) → (namedByOperations s h k a || (true && eqb (operation s h k .w1) a)) ≡ namedByOperations s h (k + 1) a
+name-operation : (s : List ℤ) (h : Header) (k a : ℕ)
+    → (namedByOperations s h k a || (true && eqb (operation s h k .w1) a)) ≡ namedByOperations s h (k + 1) a
 unfolding namedByOperations
 name-operation s h k a =
     or-assoc (namedByRules s h (h .rules) a) (anyBelow (λ j. eqb (operation s h j .w1) a) k) (eqb (operation s h k .w1) a)
@@ -51,20 +54,30 @@ count-of : (s : List ℤ) (h : Header) (k : ℕ) → operation s h k .w3 ≡ eff
 unfolding recordAt
 count-of s h k = refl
 
-module _ (s : List ℤ) (h : Header) (k sum : ℕ) (types : List ℕ) {named : List Bool} {room : ℕ} (typed : Typed s h types) (w : Turn s h room k sum named) (l : k < h .operations)
+module _ (s : List ℤ) (h : Header) (k sum : ℕ) (types : List ℕ) {named : List Bool} {room : ℕ} (typed : Typed s h types)
+    (w : Turn s h room k sum named) (l : k < h .operations)
     {base : ℕ} {r : Record} (eb : base ≡ firstOperation h) (er : r ≡ recordAt s (base + k)) where
   is : r ≡ operation s h k
   is = er ∙ rw eb
 
   pub fits : goodGroups s h ≡ true → sum + r .w3 ≤ h .effects
-  fits g = omega (arith, w .is, rw (← is) at (count-of s h k), sum-more (effectCount s h) k, sum-mono (effectCount s h) (k + 1) (h .operations) (omega arith), covers-effects s h g)
+  fits g =
+      omega (
+        arith,
+        w .is,
+        rw (← is) at (count-of s h k),
+        sum-more (effectCount s h) k,
+        sum-mono (effectCount s h) (k + 1) (h .operations) (omega arith),
+        covers-effects s h g,
+      )
 
   module _ {rooted m u : Bool} (eo : rooted ≡ rootTest h (r .w1) types named) (em : m ≡ goodMask h (r .w0)) (eu : u ≡ unused 5 r) where
     test : (m && rooted && eqb (r .w2) sum && leb 1 (r .w3) && leb 1 (r .w4) && leb (r .w4) 8 && u) ≡ goodOperation s h k
     unfolding goodOperation
     test = rw (em, eo ∙ root-is s h (r .w1) types typed (w .names), eu, is, w .is)
 
-    pub again : {v : List Bool} → (m && rooted && eqb (r .w2) sum && leb 1 (r .w3) && leb 1 (r .w4) && leb (r .w4) 8 && u) ≡ true → v ≡ marked true (r .w1) named → Turn s h room (k + 1) (sum + r .w3) v
+    pub again : {v : List Bool} → (m && rooted && eqb (r .w2) sum && leb 1 (r .w3) && leb 1 (r .w4) && leb (r .w4) 8 && u) ≡ true
+        → v ≡ marked true (r .w1) named → Turn s h room (k + 1) (sum + r .w3) v
     again p e =
         record {
           here = omega arith;
@@ -73,10 +86,13 @@ module _ (s : List ℤ) (h : Header) (k sum : ℕ) (types : List ℕ) {named : L
           good = extend-one (λ (j : ℕ). goodOperation s h j ≡ true) k (w .good) (sym test ∙ p);
         }
 
-    pub stop : (m && rooted && eqb (r .w2) sum && leb 1 (r .w3) && leb 1 (r .w4) && leb (r .w4) 8 && u) ≡ false → k ≡ firstFail (goodOperation s h) 0 (h .operations)
+    pub stop : (m && rooted && eqb (r .w2) sum && leb 1 (r .w3) && leb 1 (r .w4) && leb (r .w4) 8 && u) ≡ false
+        → k ≡ firstFail (goodOperation s h) 0 (h .operations)
     stop p = fail-at (goodOperation s h) (h .operations) k l (w .good) (sym test ∙ p)
 
 pub finish : (s : List ℤ) (h : Header) (k sum : ℕ) {named : List Bool} {room : ℕ} → Turn s h room k sum named → h .operations ≤ k
     → (k ≡ firstFail (goodOperation s h) 0 (h .operations)) × (h .operations ≤ k → Names h room (namedByOperations s h (h .operations)) named)
-finish s h k sum {named} {room} w l =
-    (fail-none (goodOperation s h) (h .operations) k (w .here) l (w .good), λ _. subst (λ (n : ℕ). Names h room (namedByOperations s h n) named) (omega (arith, w .here)) (w .names))
+finish s h k sum {named} {room} w l = (
+  fail-none (goodOperation s h) (h .operations) k (w .here) l (w .good),
+  λ _. subst (λ (n : ℕ). Names h room (namedByOperations s h n) named) (omega (arith, w .here)) (w .names),
+)

@@ -18,18 +18,25 @@ use Rattle.records.specs.Names.{goodRoot}
 use Rattle.sheet_roots.specs.Roots.{Typed, Names, rootTest}
 
 -- the test from the arrays is the definition's
-pub root-is : (s : List ℤ) (h : Header) (a : ℕ) (types : List ℕ) {f : ℕ → Bool} {named : List Bool} {m : ℕ} → Typed s h types → Names h m f named → rootTest h a types named ≡ goodRoot s h a (f a)
+pub root-is : (s : List ℤ) (h : Header) (a : ℕ) (types : List ℕ) {f : ℕ → Bool} {named : List Bool} {m : ℕ} → Typed s h types → Names h m f named
+    → rootTest h a types named ≡ goodRoot s h a (f a)
 unfolding goodRoot
 root-is s h a types {f} {named} t n = go (decLt a (h .nodes))
   where
-    go : Dec (a < h .nodes) → (ltb a (h .nodes) && eqb (getD types a 0) 0 && not (getD named a false)) ≡ (ltb a (h .nodes) && eqb (itemOf s h a .sort) 0 && not (f a))
+    go : Dec (a < h .nodes)
+        → (ltb a (h .nodes) && eqb (getD types a 0) 0 && not (getD named a false)) ≡ (ltb a (h .nodes) && eqb (itemOf s h a .sort) 0 && not (f a))
     go (yes l) = rw (t a l, n .is a (omega (arith, n .room)))
     go (no x) = rw (le-ltb a (h .nodes) (omega arith))
 
 -- one more named node
-pub name-more : {h : Header} {m : ℕ} {f g : ℕ → Bool} {named v : List Bool} (on : Bool) (i : ℕ) → Names h m f named → v ≡ marked on i named → ((a : ℕ) → (f a || (on && eqb i a)) ≡ g a) → Names h m g v
+pub name-more : {h : Header} {m : ℕ} {f g : ℕ → Bool} {named v : List Bool} (on : Bool) (i : ℕ) → Names h m f named → v ≡ marked on i named
+    → ((a : ℕ) → (f a || (on && eqb i a)) ≡ g a) → Names h m g v
 name-more {f = f} {g} {named} on i n e q =
-    rw e (record { room = n .room; long = length-marked on i named ∙ n .long; is = λ a l. marked-flags f on i named (λ b l. n .is b (omega (arith, n .long))) a (omega (arith, n .long)) ∙ q a })
+    rw e (record {
+      room = n .room;
+      long = length-marked on i named ∙ n .long;
+      is = λ a l. marked-flags f on i named (λ b l. n .is b (omega (arith, n .long))) a (omega (arith, n .long)) ∙ q a;
+    })
 
 -- the same flags under another name
 pub renamed : {h : Header} {m : ℕ} {f g : ℕ → Bool} {named : List Bool} → Names h m f named → ((a : ℕ) → f a ≡ g a) → Names h m g named

@@ -33,18 +33,25 @@ pub record Turn (s : List ℤ) (h : Header) (room k : ℕ) (named : List Bool) :
 pub begin : (s : List ℤ) (h : Header) {room : ℕ} (named : List Bool) → Names h room (NamedByNodes s h) named → Turn s h room 0 named
 unfolding namedByRules
 begin s h named n =
-    record { here = omega arith; names = renamed n (λ a. sym (ap (λ t. NamedByNodes s h a || t) (any-zero (λ j. eqb (rule s h j .w1) a)) ∙ or-false (NamedByNodes s h a))); good = λ j l. absurd (omega arith) }
+    record {
+      here = omega arith;
+      names = renamed n (λ a. sym (ap (λ t. NamedByNodes s h a || t) (any-zero (λ j. eqb (rule s h j .w1) a)) ∙ or-false (NamedByNodes s h a)));
+      good = λ j l. absurd (omega arith);
+    }
 
 name-rule : (s : List ℤ) (h : Header) (k a : ℕ) → (namedByRules s h k a || (true && eqb (rule s h k .w1) a)) ≡ namedByRules s h (k + 1) a
 unfolding namedByRules
-name-rule s h k a = or-assoc (NamedByNodes s h a) (anyBelow (λ j. eqb (rule s h j .w1) a) k) (eqb (rule s h k .w1) a) ∙ ap (λ t. NamedByNodes s h a || t) (sym (any-more (λ j. eqb (rule s h j .w1) a) k))
+name-rule s h k a =
+    or-assoc (NamedByNodes s h a) (anyBelow (λ j. eqb (rule s h j .w1) a) k) (eqb (rule s h k .w1) a)
+    ∙ ap (λ t. NamedByNodes s h a || t) (sym (any-more (λ j. eqb (rule s h j .w1) a) k))
 
 -- with a root that exists, the citation test from the array is the definition's
 chain : (a b c d e e′ : Bool) → (c ≡ true → e ≡ e′) → (a && b && c && d && e) ≡ (a && b && c && d && e′)
 chain a b true d e e′ f = rw (f refl)
 chain a b false d e e′ f = rw (and-no (a && b))
 
-module _ (s : List ℤ) (h : Header) (k : ℕ) {types tops : List ℕ} {named : List Bool} {room : ℕ} (known : Known s h types tops) (w : Turn s h room k named) (l : k < h .rules)
+module _ (s : List ℤ) (h : Header) (k : ℕ) {types tops : List ℕ} {named : List Bool} {room : ℕ} (known : Known s h types tops)
+    (w : Turn s h room k named) (l : k < h .rules)
     {base : ℕ} {r : Record} {rooted risen u cites : Bool} {top : ℕ}
     (eb : base ≡ firstRule h) (er : r ≡ recordAt s (base + k)) (eo : rooted ≡ rootTest h (r .w1) types named) (et : top ≡ getD tops (r .w1) 0)
     (ec : cites ≡ topLower s h k (r .w0) top) (ei : risen ≡ (eqb k 0 || leb (stratum s h (k - 1)) (r .w0))) (eu : u ≡ unused 2 r) where
@@ -66,7 +73,9 @@ module _ (s : List ℤ) (h : Header) (k : ℕ) {types tops : List ℕ} {named : 
   unfolding goodRule
   test =
       rw (ei, root-of, eu, is)
-      (chain (leb (stratum s h k) 15) (eqb k 0 || leb (stratum s h (k - 1)) (stratum s h k)) (goodRoot s h (rule s h k .w1) (namedByRules s h k (rule s h k .w1))) (unused 2 (rule s h k)) cites (citesLower s h k (rule s h k .w1)) cites-of)
+      (chain (leb (stratum s h k) 15) (eqb k 0 || leb (stratum s h (k - 1)) (stratum s h k))
+      (goodRoot s h (rule s h k .w1) (namedByRules s h k (rule s h k .w1))) (unused 2 (rule s h k)) cites (citesLower s h k (rule s h k .w1))
+      cites-of)
 
   pub again : {v : List Bool} → (leb (r .w0) 15 && risen && rooted && u && cites) ≡ true → v ≡ marked true (r .w1) named → Turn s h room (k + 1) v
   again p e =
@@ -79,6 +88,9 @@ module _ (s : List ℤ) (h : Header) (k : ℕ) {types tops : List ℕ} {named : 
   pub stop : (leb (r .w0) 15 && risen && rooted && u && cites) ≡ false → k ≡ firstFail (goodRule s h) 0 (h .rules)
   stop p = fail-at (goodRule s h) (h .rules) k l (w .good) (sym test ∙ p)
 
-pub finish : (s : List ℤ) (h : Header) (k : ℕ) {named : List Bool} {room : ℕ} → Turn s h room k named → h .rules ≤ k → (k ≡ firstFail (goodRule s h) 0 (h .rules)) × (h .rules ≤ k → Names h room (namedByRules s h (h .rules)) named)
-finish s h k {named} {room} w l =
-    (fail-none (goodRule s h) (h .rules) k (w .here) l (w .good), λ _. subst (λ (n : ℕ). Names h room (namedByRules s h n) named) (omega (arith, w .here)) (w .names))
+pub finish : (s : List ℤ) (h : Header) (k : ℕ) {named : List Bool} {room : ℕ} → Turn s h room k named → h .rules ≤ k
+    → (k ≡ firstFail (goodRule s h) 0 (h .rules)) × (h .rules ≤ k → Names h room (namedByRules s h (h .rules)) named)
+finish s h k {named} {room} w l = (
+  fail-none (goodRule s h) (h .rules) k (w .here) l (w .good),
+  λ _. subst (λ (n : ℕ). Names h room (namedByRules s h n) named) (omega (arith, w .here)) (w .names),
+)

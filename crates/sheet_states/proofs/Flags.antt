@@ -27,7 +27,8 @@ few-states : (r : Record) → goodEntity r ≡ true → r .w0 ≤ 16
 unfolding goodEntity
 few-states r p = let q = simp tests at p in q .0 .0 .1
 
-pub small-change : (s : List ℤ) (h : Header) (r : Record) → ((k : ℕ) → k < h .entities → goodEntity (entity s h k) ≡ true) → goodChange s h r ≡ true → SmallChange h r
+pub small-change : (s : List ℤ) (h : Header) (r : Record) → ((k : ℕ) → k < h .entities → goodEntity (entity s h k) ≡ true) → goodChange s h r ≡ true
+    → SmallChange h r
 unfolding goodChange
 small-change s h r g p =
     let q = simp tests at p in
@@ -60,7 +61,8 @@ none s h m t l e =
       good = λ j l. absurd (omega arith);
     })
 
-pub more : (s : List ℤ) (h : Header) (m k : ℕ) (t : List Bool) → Declared s h m k t → goodTransition s h k ≡ true → SmallChange h (transition s h k) → Declared s h m (k + 1) (set t (placeOf (transition s h k)) true)
+pub more : (s : List ℤ) (h : Header) (m k : ℕ) (t : List Bool) → Declared s h m k t → goodTransition s h k ≡ true → SmallChange h (transition s h k)
+    → Declared s h m (k + 1) (set t (placeOf (transition s h k)) true)
 unfolding declared
 more s h m k t d g a =
     record {
@@ -70,11 +72,14 @@ more s h m k t d g a =
       good = extend-one (λ (j : ℕ). goodTransition s h j ≡ true) k (d .good) g;
     }
   where
-    go : (r : Record) → SmallChange h r → Dec (placeOf r ≡ placeOf (transition s h k)) → getD (set t (placeOf (transition s h k)) true) (placeOf r) false ≡ (declared s h k r || sameChange (transition s h k) r)
+    go : (r : Record) → SmallChange h r → Dec (placeOf r ≡ placeOf (transition s h k))
+        → getD (set t (placeOf (transition s h k)) true) (placeOf r) false ≡ (declared s h k r || sameChange (transition s h k) r)
     go r b (yes e) =
-        rw (e, same-place h (transition s h k) r a b (sym e)) (getD-set-same t (placeOf (transition s h k)) true false (omega (arith, a, d .long, d .room)) ∙ sym (or-true (declared s h k r)))
+        rw (e, same-place h (transition s h k) r a b (sym e))
+        (getD-set-same t (placeOf (transition s h k)) true false (omega (arith, a, d .long, d .room)) ∙ sym (or-true (declared s h k r)))
     go r b (no n) =
-        rw (differ (transition s h k) r (λ e. n (sym e))) (getD-set-other t (placeOf (transition s h k)) (placeOf r) true false n ∙ d .flags r b ∙ sym (or-false (declared s h k r)))
+        rw (differ (transition s h k) r (λ e. n (sym e)))
+        (getD-set-other t (placeOf (transition s h k)) (placeOf r) true false n ∙ d .flags r b ∙ sym (or-false (declared s h k r)))
 
 -- what a turn of the loop computes
 module _ (s : List ℤ) (h : Header) (k : ℕ) {m : ℕ} (t : List Bool) (d : Declared s h m k t) {base : ℕ} {r : Record} {a b : Bool}

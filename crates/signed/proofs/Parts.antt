@@ -199,4 +199,17 @@ show-eq-true a b e = true-eq a b (ext a b e)
 pub show-eq-false : (a b : ℤ) → P a + N b ≢ P b + N a → eqZ a b ≡ false
 show-eq-false a b f = false-eq a b (λ e. f (ap (λ z. P a + N z) (sym e) ∙ ap (λ z. P z + N a) e))
 
-pub ruleset signs = (read-le-true, read-le-false, read-lt-true, read-lt-false, read-eq-true, read-eq-false, show-le-true, show-le-false, show-lt-true, show-lt-false, show-eq-true, show-eq-false)
+pub ruleset signs = (
+  read-le-true,
+  read-le-false,
+  read-lt-true,
+  read-lt-false,
+  read-eq-true,
+  read-eq-false,
+  show-le-true,
+  show-le-false,
+  show-lt-true,
+  show-lt-false,
+  show-eq-true,
+  show-eq-false,
+)

@@ -17,9 +17,11 @@ use Rattle.tables.proofs.Scans.{below-suc}
 
 module _ {A : Type 0} (f : ℕ → A) (d : A) where
   -- one entry more is stored
-  pub stored : (t : List A) (n : ℕ) (v : A) → n < length t → ((j : ℕ) → j < n → getD t j d ≡ f j) → v ≡ f n → (j : ℕ) → j < n + 1 → getD (set t n v) j d ≡ f j
+  pub stored : (t : List A) (n : ℕ) (v : A) → n < length t → ((j : ℕ) → j < n → getD t j d ≡ f j) → v ≡ f n → (j : ℕ) → j < n + 1
+      → getD (set t n v) j d ≡ f j
   stored t n v l h e j q =
-      ⊎-elim (λ p. getD-set-other t n j v d (λ z. omega (arith, z)) ∙ h j p) (λ z. rw z (getD-set-same t n v d l ∙ e)) (below-suc j n (rw add-one at q))
+      ⊎-elim (λ p. getD-set-other t n j v d (λ z. omega (arith, z)) ∙ h j p) (λ z. rw z (getD-set-same t n v d l ∙ e))
+      (below-suc j n (rw add-one at q))
 
 pub or-true : (b : Bool) → (b || true) ≡ true
 or-true true = refl

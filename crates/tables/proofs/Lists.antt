@@ -36,7 +36,8 @@ joined-same f g n [] h b = refl
 joined-same f g n (c ∷ cs) h b = ap₂ _++_ (h c (b .0)) (joined-same f g n cs h (b .1))
 
 -- what holds of the default and of each number below n holds of what is picked
-pub pick-all : {A : Type 0} (Q : A → Type 0) (f : ℕ → A) (d : A) (n : ℕ) (cs : List ℕ) (i : ℕ) → Q d → ((j : ℕ) → j < n → Q (f j)) → Before n cs → Q (pick f d cs i)
+pub pick-all : {A : Type 0} (Q : A → Type 0) (f : ℕ → A) (d : A) (n : ℕ) (cs : List ℕ) (i : ℕ) → Q d → ((j : ℕ) → j < n → Q (f j)) → Before n cs
+    → Q (pick f d cs i)
 unfolding pick
 pick-all Q f d n [] i z h b = z
 pick-all Q f d n (c ∷ cs) zero z h b = h c (b .0)

@@ -54,8 +54,15 @@ module _ (f : ℕ → Bool) where
   unfolding firstFail
   fail-here i n e = rw (e, firstFail)
 
-  unique-case : (i n k : ℕ) (b : Bool) → f i ≡ b → Scanned f i (i + suc n) k → ((k′ : ℕ) → Scanned f (suc i) (suc i + n) k′ → firstFail f (suc i) n ≡ k′) → firstFail f i (suc n) ≡ k
-  unique-case i n k true e r ih = rw (fail-later i n e) (ih k (record { low = go (decLt i k); high = omega (arith, r .high); passed = λ j p q. r .passed j (omega arith) q; fails = λ l. r .fails (omega arith) }))
+  unique-case : (i n k : ℕ) (b : Bool) → f i ≡ b → Scanned f i (i + suc n) k
+      → ((k′ : ℕ) → Scanned f (suc i) (suc i + n) k′ → firstFail f (suc i) n ≡ k′) → firstFail f i (suc n) ≡ k
+  unique-case i n k true e r ih =
+      rw (fail-later i n e) (ih k (record {
+        low = go (decLt i k);
+        high = omega (arith, r .high);
+        passed = λ j p q. r .passed j (omega arith) q;
+        fails = λ l. r .fails (omega arith);
+      }))
     where
       go : Dec (i < k) → suc i ≤ k
       go (yes l) = l

@@ -116,7 +116,8 @@ before-length ok (x ∷ xs) = go (ok x) (before-length ok xs)
     go true ih = omega arith
     go false ih = omega arith
 
-small-answer : {X : Type 0} (ok : X → Bool) (lines : List X) (n room : ℕ) → length lines < 2 ^ 63 → room < 2 ^ 63 → SmallCount (fitted room (judged ok lines n))
+small-answer : {X : Type 0} (ok : X → Bool) (lines : List X) (n room : ℕ) → length lines < 2 ^ 63 → room < 2 ^ 63
+    → SmallCount (fitted room (judged ok lines n))
 unfolding judged fitted
 small-answer ok lines n room p q = go (all ok lines)
   where

@@ -88,7 +88,8 @@ cut-line w [] l =
     ap (cut 10) (append-snoc (decimal w) 10 l) ∙ cut-ended 10 (decimal w) l (free-decimal 10 refl refl w)
 cut-line w (v ∷ vs) l =
     ap (cut 10) (append-assoc (decimal w) (9 ∷ line (v ∷ vs)) l)
-    ∙ cut-before 10 (decimal w) (9 ∷ (line (v ∷ vs) ++ l)) (9 ∷ line (v ∷ vs)) (cut 10 l) (free-decimal 10 refl refl w) (ap (joined 9) (cut-line v vs l))
+    ∙ cut-before 10 (decimal w) (9 ∷ (line (v ∷ vs) ++ l)) (9 ∷ line (v ∷ vs)) (cut 10 l) (free-decimal 10 refl refl w)
+    (ap (joined 9) (cut-line v vs l))
 
 -- a line's fields say its words
 pub numbers-line : (w : ℤ) (ws : List ℤ) → numbers (line (w ∷ ws)) ≡ w ∷ ws

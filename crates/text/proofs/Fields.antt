@@ -47,7 +47,8 @@ fields-append (x ∷ xs) ys i =
     ap (λ (l : List ℕ). decimal x ++ endOf i ∷ l) (fields-append xs ys (i + 1) ∙ ap (λ (k : ℕ). fields (i + 1) xs ++ fields k ys) (omega arith))
     ∙ sym (append-assoc (decimal x) (endOf i ∷ fields (i + 1) xs) (fields (i + suc (length xs)) ys))
 
-fields-rows : (n : ℕ) (ws : List ℤ) (i : ℕ) → length ws ≤ n * 8 → i % 8 ≡ 0 → all goodRow (rows n ws) ≡ true → join (map line (rows n ws)) ≡ fields i ws
+fields-rows : (n : ℕ) (ws : List ℤ) (i : ℕ) → length ws ≤ n * 8 → i % 8 ≡ 0 → all goodRow (rows n ws) ≡ true
+    → join (map line (rows n ws)) ≡ fields i ws
 unfolding rows join fields
 fields-rows zero [] i h e g = refl
 fields-rows zero (w ∷ ws) i h e g = absurd (omega arith)
@@ -55,7 +56,8 @@ fields-rows (suc n) ws i h e g =
     let parts = all-cons goodRow (take 8 ws) (rows n (drop 8 ws)) g in
     let eight : length (take 8 ws) ≡ 8 = row-is (take 8 ws) (parts .0) .0 in
     ap (λ (l : List ℕ). l ++ join (map line (rows n (drop 8 ws)))) (row-fields (take 8 ws) i eight e)
-    ∙ ap (λ (l : List ℕ). fields i (take 8 ws) ++ l) (fields-rows n (drop 8 ws) (i + length (take 8 ws)) (omega (arith, length-drop 8 ws)) (omega arith) (parts .1))
+    ∙ ap (λ (l : List ℕ). fields i (take 8 ws) ++ l)
+    (fields-rows n (drop 8 ws) (i + length (take 8 ws)) (omega (arith, length-drop 8 ws)) (omega arith) (parts .1))
     ∙ sym (fields-append (take 8 ws) (drop 8 ws) i)
     ∙ ap (fields i) (take-append-drop 8 ws)
 
@@ -92,7 +94,8 @@ pub record Following (l : List ℕ) (i : ℕ) : Type 0 where
   pub split : l ≡ decimal word ++ endOf i ∷ rest
 
 -- where the same bytes say some words, and more words, one of these follows the first ones
-pub following : (xs ys : List ℤ) (i : ℕ) (l r : List ℕ) → all hasText xs ≡ true → all hasText ys ≡ true → length xs < length ys → fields i xs ++ l ≡ fields i ys ++ r → Following l (i + length xs)
+pub following : (xs ys : List ℤ) (i : ℕ) (l r : List ℕ) → all hasText xs ≡ true → all hasText ys ≡ true → length xs < length ys
+    → fields i xs ++ l ≡ fields i ys ++ r → Following l (i + length xs)
 unfolding fields
 following [] [] i l r p q h e = absurd (omega arith)
 following (x ∷ xs) [] i l r p q h e = absurd (omega arith)

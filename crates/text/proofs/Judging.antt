@@ -21,7 +21,8 @@ module _ {X Y : Type 0} (ok : X → Bool) (of : X → List Y) where
   pub judged-none : (lines : List X) → Judged ok of lines lines 0 0
   judged-none lines = record { goods = refl; place = omega arith; size = omega arith }
 
-  pub judged-more : (lines : List X) (x : X) (rest : List X) (k n : ℕ) → ok x ≡ true → Judged ok of lines (x ∷ rest) k n → Judged ok of lines rest (k + 1) (n + length (of x))
+  pub judged-more : (lines : List X) (x : X) (rest : List X) (k n : ℕ) → ok x ≡ true → Judged ok of lines (x ∷ rest) k n
+      → Judged ok of lines rest (k + 1) (n + length (of x))
   unfolding all before join
   judged-more lines x rest k n e j =
       record {
@@ -30,7 +31,8 @@ module _ {X Y : Type 0} (ok : X → Bool) (of : X → List Y) where
         size = omega (arith, j .size, length-append (of x) (join (map of rest)));
       }
 
-  pub judged-bad : (lines : List X) (x : X) (rest : List X) (k n : ℕ) → ok x ≡ false → Judged ok of lines (x ∷ rest) k n → judged ok lines (length (join (map of lines))) ≡ Refused (Line k)
+  pub judged-bad : (lines : List X) (x : X) (rest : List X) (k n : ℕ) → ok x ≡ false → Judged ok of lines (x ∷ rest) k n
+      → judged ok lines (length (join (map of lines))) ≡ Refused (Line k)
   unfolding all before judged
   judged-bad lines x rest k n e j =
       let p : before ok lines ≡ k = (let q = rw e at (j .place) in omega arith) in

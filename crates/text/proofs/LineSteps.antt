@@ -40,7 +40,8 @@ fields-snoc ws v =
     let here : 0 + length ws ≡ length ws = omega arith in
     fields-append ws (v ∷ []) 0 ∙ ap (λ (k : ℕ). fields 0 ws ++ (decimal v ++ (endOf k ∷ []))) here
 
-pub so-far-more : (text : List ℕ) (at next j : ℕ) (v : ℤ) (after : ℕ) → SoFar text at next j → fieldAt text next (endOf j) ≡ IsWord v after → SoFar text at after (j + 1)
+pub so-far-more : (text : List ℕ) (at next j : ℕ) (v : ℤ) (after : ℕ) → SoFar text at next j → fieldAt text next (endOf j) ≡ IsWord v after
+    → SoFar text at after (j + 1)
 unfolding all
 so-far-more text at next j v after s e =
     let field : FieldIs text next (endOf j) v after = field-sound text next (endOf j) v after e in
@@ -77,18 +78,21 @@ pub record LineIs (text : List ℕ) (at next : ℕ) : Type 0 where
   pub later : at + 8 ≤ next
   pub within : next ≤ length text
 
-line-ends : (text : List ℕ) (at : ℕ) (ws : List ℤ) (l : List ℕ) → goodRow ws ≡ true → drop at text ≡ line ws ++ l → lineEnd at (drop at text) ≡ Next (at + length (line ws))
+line-ends : (text : List ℕ) (at : ℕ) (ws : List ℤ) (l : List ℕ) → goodRow ws ≡ true → drop at text ≡ line ws ++ l
+    → lineEnd at (drop at text) ≡ Next (at + length (line ws))
 unfolding lineEnd firstEnd
 line-ends text at ws l g e = rw (e, first-line ws l g, line-good ws g)
 
 pub so-far-done : (text : List ℕ) (at next : ℕ) → SoFar text at next 8 → lineEnd at (drop at text) ≡ Next next
 so-far-done text at next s =
     let row : line (s .words) ≡ fields 0 (s .words) = row-fields (s .words) 0 (s .count) refl in
-    line-ends text at (s .words) (drop next text) (row-good (s .words) (s .count) (s .permitted)) (s .split ∙ ap (λ (l : List ℕ). l ++ drop next text) (sym row))
+    line-ends text at (s .words) (drop next text) (row-good (s .words) (s .count) (s .permitted))
+    (s .split ∙ ap (λ (l : List ℕ). l ++ drop next text) (sym row))
     ∙ ap Next (omega (arith, s .place, ap length row))
 
 -- the first of the lines, if there is one, by its test
-first-end : (at : ℕ) (ls : List (List ℕ)) (R : LineEnd → Type 0) → R Bad → ((l : List ℕ) (rest : List (List ℕ)) → ls ≡ l ∷ rest → goodLine l ≡ true → R (Next (at + length l))) → R (firstEnd at ls)
+first-end : (at : ℕ) (ls : List (List ℕ)) (R : LineEnd → Type 0) → R Bad
+    → ((l : List ℕ) (rest : List (List ℕ)) → ls ≡ l ∷ rest → goodLine l ≡ true → R (Next (at + length l))) → R (firstEnd at ls)
 unfolding firstEnd
 first-end at [] R bad good = bad
 first-end at (l ∷ rest) R bad good = go (goodLine l) refl
@@ -126,7 +130,8 @@ no-end text next j f e =
     let clash : _≡_ {A = ℕ} 0 1 = cc in
     omega arith
 
-pub so-far-bad : (text : List ℕ) (at next j : ℕ) → j < 8 → SoFar text at next j → fieldAt text next (endOf j) ≡ NoWord → lineEnd at (drop at text) ≡ Bad
+pub so-far-bad : (text : List ℕ) (at next j : ℕ) → j < 8 → SoFar text at next j → fieldAt text next (endOf j) ≡ NoWord
+    → lineEnd at (drop at text) ≡ Bad
 unfolding lineEnd
 so-far-bad text at next j h s e =
     first-end at (linesOf (drop at text)) (λ (x : LineEnd). x ≡ Bad) refl
@@ -134,7 +139,9 @@ so-far-bad text at next j h s e =
     let start = starts (drop at text) l rest q g in
     let split : fields 0 (s .words) ++ drop next text ≡ fields 0 (numbers l) ++ join rest =
     sym (s .split) ∙ start .split ∙ ap (λ (x : List ℕ). x ++ join rest) (start .as-fields) in
-    let next-word = following (s .words) (numbers l) 0 (drop next text) (join rest) (s .permitted) (start .permitted) (omega (arith, s .count, start .eight)) split in
+    let next-word =
+    following (s .words) (numbers l) 0 (drop next text) (join rest) (s .permitted) (start .permitted) (omega (arith, s .count, start .eight))
+    split in
     let here : 0 + length (s .words) ≡ j = omega (arith, s .count) in
     absurd (no-end text next j (subst (Following (drop next text)) here next-word) e))
 
@@ -147,7 +154,10 @@ line-next text at next h =
     let start = starts (drop at text) l rest q g in
     let place : at + length l ≡ next = cc in
     let rest-is : drop next text ≡ join rest =
-    ap (λ (k : ℕ). drop k text) (sym place) ∙ sym (drop-drop (length l) at text) ∙ ap (drop (length l)) (start .split) ∙ drop-append-seam l (join rest) in
+    ap (λ (k : ℕ). drop k text) (sym place)
+    ∙ sym (drop-drop (length l) at text)
+    ∙ ap (drop (length l)) (start .split)
+    ∙ drop-append-seam l (join rest) in
     record {
       bytes = l;
       good = g;

@@ -37,7 +37,8 @@ pub counting-none : (text : List ℕ) → Counting text 0 0
 counting-none text =
     record { within = omega arith; most = omega arith; lines = judged-none goodLine numbers (linesOf text) }
 
-pub counting-more : (text : List ℕ) (at k next : ℕ) → Counting text at k → lineEnd at (drop at text) ≡ Next next → (at < next) × Counting text next (k + 1)
+pub counting-more : (text : List ℕ) (at k next : ℕ) → Counting text at k → lineEnd at (drop at text) ≡ Next next
+    → (at < next) × Counting text next (k + 1)
 counting-more text at k next c e =
     let l : LineIs text at next = line-next text at next (c .within) e in
     let eight : length (numbers (l .bytes)) ≡ 8 = row-is (numbers (l .bytes)) (line-is (l .bytes) (l .good) .0) .0 in
@@ -69,13 +70,16 @@ bad-line at x xs = go (goodLine x)
     go true e = let clash : _≡_ {A = ℕ} 0 1 = cc in absurd (omega arith)
     go false e = refl
 
-pub counting-bad : (text : List ℕ) (at k : ℕ) → at < length text → Counting text at k → lineEnd at (drop at text) ≡ Bad → judged goodLine (linesOf text) (length (wordsOf text)) ≡ Refused (Line k)
+pub counting-bad : (text : List ℕ) (at k : ℕ) → at < length text → Counting text at k → lineEnd at (drop at text) ≡ Bad
+    → judged goodLine (linesOf text) (length (wordsOf text)) ≡ Refused (Line k)
 unfolding lineEnd wordsOf
 counting-bad text at k h c e =
     let next = next-line (drop at text) (omega (arith, length-drop at text)) in
-    judged-bad goodLine numbers (linesOf text) (next .0) (next .1) k (k * 8) (bad-line at (next .0) (next .1) (rw (next .2) at e)) (rw (next .2) at (c .lines))
+    judged-bad goodLine numbers (linesOf text) (next .0) (next .1) k (k * 8) (bad-line at (next .0) (next .1) (rw (next .2) at e))
+    (rw (next .2) at (c .lines))
 
-pub counting-done : (text : List ℕ) (at k : ℕ) → length text ≤ at → Counting text at k → judged goodLine (linesOf text) (length (wordsOf text)) ≡ Is (k * 8)
+pub counting-done : (text : List ℕ) (at k : ℕ) → length text ≤ at → Counting text at k
+    → judged goodLine (linesOf text) (length (wordsOf text)) ≡ Is (k * 8)
 unfolding wordsOf linesOf cut
 counting-done text at k h c =
     judged-done goodLine numbers (linesOf text) k (k * 8) (rw (drop-of-length-le text h) at (c .lines))
@@ -121,7 +125,9 @@ module _ (text : List ℕ) (good : all goodLine (linesOf text) ≡ true) (lent :
     pub storing-more : (v : ℤ) (next : ℕ) → fieldAt text at (endOf i) ≡ IsWord v next → Storing text lent (set words i v) next (i + 1)
     storing-more v next e =
         let read : FieldIs text at (endOf i) v next = field-sound text at (endOf i) v next e in
-        let one = decimal-unique v here (endOf i) (drop next text) (fields (i + 1) (drop (i + 1) (wordsOf text))) (read .permitted) permitted (end-plain i) (sym (read .split) ∙ field) in
+        let one =
+        decimal-unique v here (endOf i) (drop next text) (fields (i + 1) (drop (i + 1) (wordsOf text))) (read .permitted) permitted (end-plain i)
+        (sym (read .split) ∙ field) in
         record {
           split = one .1;
           stored = rw (one .0, add-one i) (ap (sets words i) (sym (drop-cons (wordsOf text) i (pos 0) h)) ∙ s .stored);

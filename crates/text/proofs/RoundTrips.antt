@@ -18,11 +18,13 @@ use Rattle.text.proofs.Calls.{Accepted, accepted, accepts, filled-take}
 
 -- ---- what a call that goes through leaves
 
-read-is : (text : List ℕ) (lent : List ℤ) (n : ℕ) → readAnswer text (length lent) ≡ Is n → Accepted goodLine (linesOf text) (length (wordsOf text)) (length lent) n
+read-is : (text : List ℕ) (lent : List ℤ) (n : ℕ) → readAnswer text (length lent) ≡ Is n
+    → Accepted goodLine (linesOf text) (length (wordsOf text)) (length lent) n
 unfolding readAnswer
 read-is text lent n e = accepted goodLine (linesOf text) (length (wordsOf text)) (length lent) n e
 
-reads : (text : List ℕ) (room : ℕ) → all goodLine (linesOf text) ≡ true → length (wordsOf text) ≤ room → readAnswer text room ≡ Is (length (wordsOf text))
+reads : (text : List ℕ) (room : ℕ) → all goodLine (linesOf text) ≡ true → length (wordsOf text) ≤ room
+    → readAnswer text room ≡ Is (length (wordsOf text))
 unfolding readAnswer
 reads text room h r = accepts goodLine (linesOf text) (length (wordsOf text)) room h r
 
@@ -32,11 +34,13 @@ read-words text lent n e =
     let count : n ≡ length (wordsOf text) = read-is text lent n e .count in
     rw (e, count) (filled-take (wordsOf text) lent)
 
-write-is : (words : List ℤ) (lent : List ℕ) → all goodRow (rowsOf words) ≡ true → length (textOf words) ≤ length lent → writeAnswer words (length lent) ≡ Is (length (textOf words))
+write-is : (words : List ℤ) (lent : List ℕ) → all goodRow (rowsOf words) ≡ true → length (textOf words) ≤ length lent
+    → writeAnswer words (length lent) ≡ Is (length (textOf words))
 unfolding writeAnswer
 write-is words lent h r = accepts goodRow (rowsOf words) (length (textOf words)) (length lent) h r
 
-write-text : (words : List ℤ) (lent : List ℕ) → all goodRow (rowsOf words) ≡ true → length (textOf words) ≤ length lent → take (length (textOf words)) (writeBuffer words lent) ≡ textOf words
+write-text : (words : List ℤ) (lent : List ℕ) → all goodRow (rowsOf words) ≡ true → length (textOf words) ≤ length lent
+    → take (length (textOf words)) (writeBuffer words lent) ≡ textOf words
 unfolding writeBuffer
 write-text words lent h r = rw (write-is words lent h r) (filled-take (textOf words) lent)
 

@@ -11,7 +11,8 @@ use Rattle.facts.proofs.assemble.Statement.{statement}
 use Rattle.facts.proofs.assemble.Tie as tie
 
 abbrev Inv-loop : tie.InvT-loop
-Inv-loop s values given facts₀ n k₀ facts k = Filled (λ (j : ℕ). valueTaken s j (getD values j (pos 0)) (getD given j (pos 0))) (pos 0) facts₀ n k facts
+Inv-loop s values given facts₀ n k₀ facts k =
+    Filled (λ (j : ℕ). valueTaken s j (getD values j (pos 0)) (getD given j (pos 0))) (pos 0) facts₀ n k facts
 
 abbrev μ-loop : tie.MeasureT-loop
 μ-loop s values given facts₀ n k₀ facts k = n - k

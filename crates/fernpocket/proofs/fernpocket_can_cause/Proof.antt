@@ -14,7 +14,14 @@ of-count-requires : tie.Need-of-count-requires
 of-count-requires c κs = rw (c .can-cause .ensures) (can-cause-small _ _ _ _ _)
 
 returns : tie.Need-returns
-returns c = c .of-count .ensures ∙ ap countAnswer (rw (back (c .before .before .fits .persona), back (c .before .before .fits .entity), back (c .before .before .fits .from), back (c .before .before .fits .to)) at (c .before .can-cause .ensures))
+returns c =
+    c .of-count .ensures
+    ∙ ap countAnswer (rw (
+      back (c .before .before .fits .persona),
+      back (c .before .before .fits .entity),
+      back (c .before .before .fits .from),
+      back (c .before .before .fits .to),
+    ) at (c .before .can-cause .ensures))
 
 pub fernpocket-can-cause-spec : {M : Type 1} → statement M
 fernpocket-can-cause-spec = tie.close (tie.spec can-cause-requires of-count-requires returns)

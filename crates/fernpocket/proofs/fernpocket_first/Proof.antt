@@ -17,7 +17,12 @@ same-length : tie.Need-same-length
 same-length c = search needs
 
 returns : tie.Need-returns
-returns c = (c .of-walk .ensures ∙ ap walkAnswer (rw (back (c .before .before .before .before .before .before .fits .flow)) at (c .before .before .before .first .ensures .0)), rw (back (c .before .before .before .before .before .before .fits .flow)) at (c .before .before .before .first .ensures .1))
+returns c = (
+  c .of-walk .ensures
+      ∙ ap walkAnswer
+      (rw (back (c .before .before .before .before .before .before .fits .flow)) at (c .before .before .before .first .ensures .0)),
+  rw (back (c .before .before .before .before .before .before .fits .flow)) at (c .before .before .before .first .ensures .1),
+)
 
 pub fernpocket-first-spec : {M : Type 1} → statement M
 fernpocket-first-spec = tie.close (tie.spec first-requires of-walk-requires same-length returns)

@@ -17,7 +17,13 @@ same-length : tie.Need-same-length
 same-length c = search needs
 
 returns : tie.Need-returns
-returns c = (c .of-count .ensures ∙ ap countAnswer (rw (back (c .before .before .before .before .fits .persona), back (c .before .before .before .before .fits .operation)) at (c .before .before .operate .ensures .0)), rw (back (c .before .before .before .before .fits .persona), back (c .before .before .before .before .fits .operation)) at (c .before .before .operate .ensures .1))
+returns c = (
+  c .of-count .ensures
+      ∙ ap countAnswer (rw (back (c .before .before .before .before .fits .persona), back (c .before .before .before .before .fits .operation))
+      at (c .before .before .operate .ensures .0)),
+  rw (back (c .before .before .before .before .fits .persona), back (c .before .before .before .before .fits .operation))
+      at (c .before .before .operate .ensures .1),
+)
 
 pub fernpocket-operate-spec : {M : Type 1} → statement M
 fernpocket-operate-spec =

@@ -10,7 +10,9 @@ read-requires : tie.Need-read-requires
 read-requires c κs = tt
 
 of-count-requires : tie.Need-of-count-requires
-of-count-requires c κs = rw (c .before .read .ensures .0) (read-small _ _ (omega (arith, c .before .before .before .before .good .0 .1)) (omega (arith, c .before .before .before .before .good .1 .0 .1)))
+of-count-requires c κs =
+    rw (c .before .read .ensures .0)
+    (read-small _ _ (omega (arith, c .before .before .before .before .good .0 .1)) (omega (arith, c .before .before .before .before .good .1 .0 .1)))
 
 same-length : tie.Need-same-length
 same-length c = c .before .before .read .kept .1 .0

@@ -10,7 +10,10 @@ write-requires : tie.Need-write-requires
 write-requires c κs = tt
 
 of-count-requires : tie.Need-of-count-requires
-of-count-requires c κs = rw (c .before .before .write .ensures .0) (write-small _ _ (omega (arith, c .before .before .before .before .before .good .0 .1)) (omega (arith, c .before .before .before .before .before .good .1 .0 .1)))
+of-count-requires c κs =
+    rw (c .before .before .write .ensures .0)
+    (write-small _ _ (omega (arith, c .before .before .before .before .before .good .0 .1))
+    (omega (arith, c .before .before .before .before .before .good .1 .0 .1)))
 
 same-length : tie.Need-same-length
 same-length c = c .before .before .before .write .kept .1 .0

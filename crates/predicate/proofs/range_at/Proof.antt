@@ -12,7 +12,9 @@ num-requires : tie.Need-num-requires
 num-requires c κs = search needs
 
 named-fact-requires : tie.Need-named-fact-requires
-named-fact-requires c κs = good-facts (c .before .before .before .pre .0 .0 .accepted .sized) (c .before .before .before .pre .0 .0 .accepted .facts) (c .before .before .before .pre .0 .0 .first)
+named-fact-requires c κs =
+    good-facts (c .before .before .before .pre .0 .0 .accepted .sized) (c .before .before .before .pre .0 .0 .accepted .facts)
+    (c .before .before .before .pre .0 .0 .first)
 
 num-requires-2 : tie.Need-num-requires-2
 num-requires-2 c κs = search needs

@@ -12,7 +12,11 @@ outcomes-of-requires c κs = search needs
 
 add-result : tie.Need-add-result
 add-result c =
-    let few = few-outcomes (c .before .before .before .before .before .before .args .s .now) (c .before .before .before .before .before .before .args .h) (c .before .before .before .before .before .before .args .r .w1) (c .before .before .before .before .before .before .pre .1 (c .before .before .before .before .before .before .args .r .w1) (c .before .before .before .if1 .taken)) in
+    let few =
+    few-outcomes (c .before .before .before .before .before .before .args .s .now) (c .before .before .before .before .before .before .args .h)
+    (c .before .before .before .before .before .before .args .r .w1)
+    (c .before .before .before .before .before .before .pre .1 (c .before .before .before .before .before .before .args .r .w1)
+    (c .before .before .before .if1 .taken)) in
     omega (arith, few, c .before .before .outcomes-of .ensures)
 
 returns : tie.Need-returns

@@ -58,4 +58,6 @@ returns-6 : tie.Need-returns-6
 returns-6 c = rw (c .before .enum-told6 .given .1) (c .longest .ensures)
 
 pub figure-spec : {M : Type 1} → statement M
-figure-spec = tie.close (tie.spec enum-told states-of-requires enum-told-2 reachable-requires enum-told-3 stratum-of-requires enum-told-4 outcomes-of-requires enum-told-5 tree-size-requires enum-told-6 longest-requires returns returns-2 returns-3 returns-4 returns-5 returns-6)
+figure-spec =
+    tie.close (tie.spec enum-told states-of-requires enum-told-2 reachable-requires enum-told-3 stratum-of-requires enum-told-4 outcomes-of-requires
+    enum-told-5 tree-size-requires enum-told-6 longest-requires returns returns-2 returns-3 returns-4 returns-5 returns-6)
