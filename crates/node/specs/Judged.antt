@@ -3,13 +3,15 @@
 use Prim.Native.Nat.{ℕ, zero, suc}
 use mathlib.Core.Bool.{Bool, true, false, cond}
 use mathlib.Core.List.{List, [], _∷_}
+use lib.IntN.{ℤ}
+use Rattle.words.specs.declared.Words.{Words}
 use Rattle.item.specs.declared.Item.{Item}
 use Rattle.item.specs.Items.{none}
 use Rattle.item.specs.Inner.{Small}
 use Rattle.node.specs.declared.Given.{Given}
 use Rattle.node.specs.declared.Judgement.{Judgement}
 use Rattle.node.specs.declared.Kids.{Kids}
-use Rattle.node.specs.Rows.{Row, fits}
+use Rattle.node.specs.Rows.{Row, Seen, fits}
 
 abbrev pub bad : Judgement
 bad = record { good = false; item = none }
@@ -34,3 +36,7 @@ upTo (suc (suc n)) a b = a ∷ b ∷ []
 
 abbrev pub kids : Kids → List ℕ
 kids r = upTo (r .count) (r .first) (r .second)
+
+-- what a value is worked out from, part by part
+abbrev pub seen : Words → List ℤ → List ℤ → ℤ → ℤ → Seen
+seen w facts verdicts x y = record { words = w; facts = facts; verdicts = verdicts; x = x; y = y }

@@ -34,8 +34,10 @@ use Rattle.records.proofs.FactLaws.{fact-ok}
 use Rattle.records.proofs.NodeLaws.{node-ok}
 use Rattle.facts.specs.Inner.{FactsIn}
 use Rattle.predicate.specs.Verdicts.{verdictsOf}
-use Rattle.predicate.specs.Base.{rowAt, childrenAt, givenAt, RangeAt}
-use Rattle.predicate.proofs.BaseLaws.{ranged, none-named, one-named, two-named}
+use Rattle.tree.specs.Inner.{rowAt, childrenAt}
+use Rattle.predicate.specs.Base.{givenAt, RangeAt}
+use Rattle.tree.proofs.TreeLaws.{none-named, one-named, two-named}
+use Rattle.predicate.proofs.BaseLaws.{ranged}
 use Rattle.predicate.proofs.ValueLaws.{Within, value-in}
 use Rattle.predicate.proofs.VerdictLaws.{verdicts-true}
 

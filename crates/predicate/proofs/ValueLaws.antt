@@ -33,9 +33,11 @@ use Rattle.records.proofs.NodeLaws.{node-ok}
 use Rattle.facts.specs.Inner.{FactsIn}
 use Rattle.predicate.specs.Values.{seenOf, valueStep, valueOf, truth}
 use Rattle.predicate.specs.Inner.{Truths}
-use Rattle.predicate.specs.Base.{rowAt, childrenAt, seenAt, EvaluableAt}
-use Rattle.predicate.proofs.BaseLaws.{there, none-named, one-named, two-named}
-use Rattle.predicate.proofs.KindLaws.{decided}
+use Rattle.tree.specs.Inner.{rowAt, childrenAt}
+use Rattle.predicate.specs.Base.{seenAt, EvaluableAt}
+use Rattle.tree.proofs.TreeLaws.{none-named, one-named, two-named}
+use Rattle.predicate.proofs.BaseLaws.{there}
+use Rattle.kinds.proofs.KindLaws.{decided}
 
 -- the value x lies in the range
 abbrev pub Within : Item → ℤ → Type 0

@@ -31,7 +31,7 @@ use Rattle.facts.specs.Inner.{FactsIn}
 use Rattle.predicate.specs.Values.{truth, valueOf}
 use Rattle.predicate.specs.Inner.{Truths, Evaluable}
 use Rattle.predicate.specs.Verdicts.{whenNode, verdictsTo, verdictsOf}
-use Rattle.predicate.proofs.KindLaws.{cited}
+use Rattle.kinds.proofs.KindLaws.{cited}
 use Rattle.predicate.proofs.ValueLaws.{value-is}
 
 -- ---- every verdict is 1 or 0

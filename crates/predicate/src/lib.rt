@@ -1,152 +1,39 @@
-// Predicates over facts and verdicts: the value of a node, its range, and the size of its tree; and the verdicts.
+// Predicates over facts and verdicts: the value of a node and its range; and the verdicts.
 ghost use mathlib.Core.Path.{_≡_};
-ghost use mathlib.Core.Bool.{true, not, _&&_, _||_};
+ghost use mathlib.Core.Bool.{true};
 ghost use Prim.Native.Nat.{_+_, _*_, _<_, _≤_};
-ghost use lib.IntN.{pos, _+ℤ_, _-ℤ_, _*ℤ_};
-ghost use lib.ListN.{length, getD};
-ghost use Rattle.signed.specs.Words.{bounded, within as inRange, num as wordNumber};
-ghost use Rattle.signed.specs.Compare.{holds as comparison};
+ghost use lib.IntN.{pos};
+ghost use lib.ListN.{length};
+ghost use Rattle.signed.specs.Words.{bounded, within as inRange};
 ghost use Rattle.layout.specs.Header.{headerOf};
-ghost use Rattle.item.specs.Items.{span as itemSpan};
 ghost use Rattle.item.specs.Inner.{Small};
-ghost use Rattle.node.specs.Rows.{bit, isTrue, rowOf};
-ghost use Rattle.node.specs.Judged.{kids, SmallKids};
 ghost use Rattle.records.specs.Nodes.{itemOf};
 ghost use Rattle.records.specs.Accepted.{Accepted};
+ghost use Rattle.tree.specs.Inner.{rowAt, BaseOf};
 ghost use Rattle.facts.specs.Inner.{FactsIn};
 ghost use Rattle.predicate.specs.Values.{valueOf, truth};
-ghost use Rattle.predicate.specs.Inner.{Evaluable};
-ghost use Rattle.predicate.specs.Base.{rowAt, childrenAt, seen, seenAt, givenAt, BaseOf, NodeAt, EvaluableAt, RangeAt};
 ghost use Rattle.predicate.specs.Verdicts.{verdictsOf};
-ghost use Rattle.predicate.specs.Sizes.{treeSize};
+ghost use Rattle.predicate.specs.Inner.{Evaluable};
+ghost use Rattle.predicate.specs.Base.{seenAt, givenAt, EvaluableAt, RangeAt};
 use item::Item;
-use item::both;
-use item::compared;
-use item::difference;
-use item::either;
-use item::multiple;
-use item::negation;
 use item::span;
-use item::sum;
+use kinds::bit;
+use kinds::decides;
+use kinds::range_from;
+use kinds::value_from;
 use layout::Header;
 use layout::Node;
 use layout::place;
 use node::Given;
-use node::Kids;
-use node::children;
 use records::named_fact;
-use signed::holds;
 use signed::num;
 use signed::same;
 use signed::within;
-use tables::word_entry;
-use words::Words;
+use tree::kids_at;
 use words::number;
 use words::words_at;
 
-// Sums, differences and products that are known to lie in −M..M.
-fn add(a: i64, b: i64) -> i64
-    requires { ⌜ bounded (a +ℤ b) ≡ true ⌝ }
-    ensures { λ r. ⌜ r ≡ a +ℤ b ⌝ }
-{
-    a + b
-}
-
-fn subtract(a: i64, b: i64) -> i64
-    requires { ⌜ bounded (a -ℤ b) ≡ true ⌝ }
-    ensures { λ r. ⌜ r ≡ a -ℤ b ⌝ }
-{
-    a - b
-}
-
-fn multiply(a: i64, b: i64) -> i64
-    requires { ⌜ bounded (a *ℤ b) ≡ true ⌝ }
-    ensures { λ r. ⌜ r ≡ a *ℤ b ⌝ }
-{
-    a * b
-}
-
-// A truth value, as a word.
-fn bit(b: bool) -> i64
-    ensures { λ r. ⌜ r ≡ bit b ⌝ }
-{
-    if b { 1 } else { 0 }
-}
-
-fn compare(w: Words, x: i64, y: i64) -> i64
-    ensures { λ r. ⌜ r ≡ bit (comparison (wordNumber (w .w1)) x y) ⌝ }
-{
-    bit(holds(num(w.w1), x, y))
-}
-
-fn both_true(x: i64, y: i64) -> i64
-    ensures { λ r. ⌜ r ≡ bit (isTrue x && isTrue y) ⌝ }
-{
-    bit(same(x, 1) & same(y, 1))
-}
-
-fn either_true(x: i64, y: i64) -> i64
-    ensures { λ r. ⌜ r ≡ bit (isTrue x || isTrue y) ⌝ }
-{
-    bit(same(x, 1) | same(y, 1))
-}
-
-fn not_true(x: i64) -> i64
-    ensures { λ r. ⌜ r ≡ bit (not (isTrue x)) ⌝ }
-{
-    bit(!same(x, 1))
-}
-
-// The fact or the verdict that word 1 names.
-fn named(t: &[i64], w: Words) -> i64
-    ensures { λ r. ⌜ r ≡ getD (now (t .entry)) (wordNumber (w .w1)) (pos 0) ⌝ }
-{
-    word_entry(t, num(w.w1))
-}
-
-// The value of a node of kind number k, known to lie in −M..M, from its words, the facts, the verdicts and its children's values.
-fn value_from(k: usize, w: Words, facts: &[i64], verdicts: &[i64], x: i64, y: i64) -> i64
-    requires { ⌜ bounded (rowOf k .value (seen w (now facts) (now verdicts) x y)) ≡ true ⌝ }
-    ensures { λ r. ⌜ r ≡ rowOf k .value (seen w (now (facts .entry)) (now (verdicts .entry)) x y) ⌝ }
-{
-    match k {
-        0 => w.w1,
-        1 => w.w1,
-        2 => w.w1,
-        3 => named(facts, w),
-        4 => add(x, y),
-        5 => subtract(x, y),
-        6 => multiply(x, w.w2),
-        7 => compare(w, x, y),
-        8 => named(verdicts, w),
-        9 => both_true(x, y),
-        10 => either_true(x, y),
-        11 => not_true(x),
-        12.. => 0,
-    }
-}
-
-// Whether the first child of a node of kind number k already decides it.
-fn decides(k: usize, x: i64) -> bool
-    ensures { λ r. ⌜ r ≡ rowOf k .decides x ⌝ }
-{
-    match k {
-        0..=8 => false,
-        9 => same(x, 0),
-        10 => same(x, 1),
-        11.. => false,
-    }
-}
-
-// The children of the node in record k. This and the next two read the record anew, so that no call of the recursions below keeps it.
-fn kids_at(s: &[i64], k: usize) -> Kids
-    requires { ⌜ 16 + 8 * k + 8 ≤ length (now s) ⌝ }
-    ensures { λ r. ⌜ kids r ≡ childrenAt (now (s .entry)) k ⌝ }
-{
-    let w = words_at(s, k);
-    children(num(w.w0), w)
-}
-
+// The value of the node in record k from those of its children.
 fn value_at(s: &[i64], k: usize, facts: &[i64], verdicts: &[i64], x: i64, y: i64) -> i64
     requires { ⌜ 16 + 8 * k + 8 ≤ length (now s) ⌝ }
     requires { ⌜ bounded (rowAt (now s) k .value (seenAt (now s) k (now facts) (now verdicts) x y)) ≡ true ⌝ }
@@ -208,40 +95,6 @@ pub fn fill_verdicts(s: &[i64], h: Header, facts: &[i64], out: &mut [i64])
     }
 }
 
-// The type and range of a literal: its type is t and what word 2 adds.
-fn literal_range(w: Words, t: usize) -> Item
-    requires { ⌜ (t ≤ 2) × (wordNumber (w .w2) ≤ 127) ⌝ }
-    ensures { λ r. ⌜ r ≡ itemSpan (t + wordNumber (w .w2)) (w .w1) (w .w1) ⌝ }
-{
-    span(t + num(w.w2), w.w1, w.w1)
-}
-
-// The type and range of a node of kind number k that its row takes.
-fn range_from(k: usize, g: Given) -> Item
-    requires { ⌜ SmallKids g × (rowOf k .takes g ≡ true) ⌝ }
-    ensures { λ r. ⌜ r ≡ rowOf k .gives g ⌝ }
-{
-    let w = g.words;
-    let f = g.fact;
-    let x = g.x;
-    let y = g.y;
-    match k {
-        0 => literal_range(w, 1),
-        1 => literal_range(w, 0),
-        2 => literal_range(w, 2),
-        3 => f,
-        4 => sum(x, y),
-        5 => difference(x, y),
-        6 => multiple(w.w2, x),
-        7 => compared(num(w.w1), x, y),
-        8 => span(0, 0, 1),
-        9 => both(x, y),
-        10 => either(x, y),
-        11 => negation(x),
-        12.. => span(0, 0, 0),
-    }
-}
-
 // The type and range of the node in record k, which is good, from those of its children. There are `base` facts.
 fn range_at(s: &[i64], base: usize, rules: usize, k: usize, x: Item, y: Item) -> Item
     requires { ⌜ BaseOf (now s) base × (16 + 8 * k + 8 ≤ length (now s)) ⌝ }
@@ -290,28 +143,4 @@ pub fn can_hold(s: &[i64], h: Header, n: Node) -> bool
 {
     let x = item_at(s, h.facts, h.rules, n);
     within(x.low, 1, x.high)
-}
-
-// S7: the number of nodes in the tree under a node, itself counted. Each node is named at most once, so there are at most n + 1.
-pub fn tree_size(s: &[i64], h: Header, n: Node) -> usize
-    requires { ⌜ Accepted (now s) h × (n .0 < h .nodes) ⌝ }
-    ensures { λ r. ⌜ r ≡ treeSize (now (s .entry)) h (n .0) ⌝ }
-{
-    size_at(s, h.facts, n)
-}
-
-// The same, from the record of the first node.
-fn size_at(s: &[i64], base: usize, n: Node) -> usize
-    requires { ⌜ NodeAt (now s) base (n .0) ⌝ }
-    ensures { λ r. ⌜ r ≡ treeSize (now (s .entry)) (headerOf (now (s .entry))) (n .0) ⌝ }
-{
-    let c = kids_at(s, base + n.0);
-    if c.count == 0 {
-        return 1;
-    }
-    let a = size_at(s, base, Node(c.first));
-    if c.count == 1 {
-        return 1 + a;
-    }
-    1 + a + size_at(s, base, Node(c.second))
 }

@@ -19,8 +19,8 @@ use Rattle.records.specs.Entities.{states}
 use Rattle.records.proofs.OperationLaws.{entity-ok, operation-ok}
 use Rattle.records.proofs.RuleLaws.{rule-ok}
 use Rattle.records.proofs.FlowLaws.{flow-ok}
-use Rattle.predicate.specs.Sizes.{treeSize}
-use Rattle.predicate.proofs.SizeLaws.{size-small}
+use Rattle.tree.specs.Sizes.{treeSize}
+use Rattle.tree.proofs.SizeLaws.{size-small}
 use Rattle.listing.specs.Depth.{depth}
 use Rattle.listing.proofs.Ways.{way-start, paths-on}
 use Rattle.listing.proofs.Depths.{depth-short}

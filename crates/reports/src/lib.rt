@@ -21,12 +21,12 @@ use layout::Operation;
 use layout::Persona;
 use layout::Rule;
 use listing::longest;
-use predicate::tree_size;
 use reach::reachable;
 use records::outcomes_of;
 use records::states_of;
 use records::stratum_of;
 use signed::num;
+use tree::tree_size;
 
 // The reports that take one number, that of a record.
 pub enum Report {

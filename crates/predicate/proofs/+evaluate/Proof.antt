@@ -1,5 +1,6 @@
 -- `predicate::evaluate` meets its contract, and ends: the node number falls. Assumes nothing.
-use Rattle.predicate.proofs.BaseLaws.{there, held, first-before, second-before, lower-value}
+use Rattle.tree.proofs.TreeLaws.{held, first-before, second-before}
+use Rattle.predicate.proofs.BaseLaws.{there, lower-value}
 use Rattle.predicate.proofs.ValueLaws.{by-none, by-one, by-two, by-first}
 use Rattle.words.specs.Record.{wordsAt}
 use Rattle.signed.proofs.Fit.{back-of}
@@ -12,8 +13,8 @@ use borrow.Fn.PlainCycle.{Measures, is, falls, and}
 use Rattle.predicate.proofs.evaluate.Reads as evaluate
 use Rattle.predicate.proofs.evaluate.Kinds as evaluate-kinds
 use Rattle.predicate.proofs.+evaluate.Lts-evaluate as evaluate-lts
-use Rattle.predicate.proofs.decides.Reads as decides-reads
-use Rattle.predicate.proofs.kids_at.Reads as kids-at-reads
+use Rattle.kinds.proofs.decides.Reads as decides-reads
+use Rattle.tree.proofs.kids_at.Reads as kids-at-reads
 use Rattle.predicate.proofs.value_at.Reads as value-at-reads
 use Rattle.words.proofs.number.Reads as number-reads
 use Rattle.predicate.proofs.+evaluate.{statement}

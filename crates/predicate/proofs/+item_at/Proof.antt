@@ -1,5 +1,6 @@
 -- `predicate::item_at` meets its contract, and ends: the node number falls. Assumes nothing.
-use Rattle.predicate.proofs.BaseLaws.{ranged, base-of, held, first-before, second-before, lower-range}
+use Rattle.tree.proofs.TreeLaws.{held, first-before, second-before}
+use Rattle.predicate.proofs.BaseLaws.{ranged, base-of, lower-range}
 use Rattle.predicate.proofs.RangeLaws.{none-small, item-small, range-none, range-one, range-two}
 use native.Mathlib.Omega.{arith}
 use borrow.Author.Needs.{needs}
@@ -10,7 +11,7 @@ use Rattle.predicate.proofs.item_at.Reads as item-at
 use Rattle.predicate.proofs.item_at.Kinds as item-at-kinds
 use Rattle.predicate.proofs.+item_at.Lts-item_at as item-at-lts
 use Rattle.item.proofs.span.Reads as span-reads
-use Rattle.predicate.proofs.kids_at.Reads as kids-at-reads
+use Rattle.tree.proofs.kids_at.Reads as kids-at-reads
 use Rattle.predicate.proofs.range_at.Reads as range-at-reads
 use Rattle.predicate.proofs.+item_at.{statement}
 use Rattle.predicate.proofs.+item_at.Tie.{close}

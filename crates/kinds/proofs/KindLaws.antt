@@ -1,0 +1,91 @@
+-- What holds of every kind's value: where the first child decides, it is the value; and only the verdicts that the node cites matter.
+-- Assumes nothing.
+use mathlib.Core.Path.{_≡_, refl}
+use mathlib.Core.Bool.{Bool, true, false}
+use mathlib.Core.List.{List, [], _∷_}
+use Prim.Native.Nat.{ℕ, zero, suc}
+use lib.IntN.{ℤ, pos}
+use lib.ListN.{getD}
+use Rattle.tables.specs.Lists.{allOf}
+use Rattle.tables.proofs.Bools.{true-false, and-left}
+use Rattle.signed.specs.Words.{eqZ, num}
+use Rattle.signed.proofs.Parts.{eq-true}
+use Rattle.words.specs.declared.Words.{Words}
+use Rattle.node.specs.Rows.{Row, unknown, rows, rowOf, conjunction, disjunction, present}
+use Rattle.node.specs.Judged.{seen}
+
+-- a fact of each row of a list
+infixr 30 _▹_
+data Each (Q : Row → Type 0) : List Row → Type 0 where
+  end : Each Q []
+  _▹_ : {r : Row} {rs : List Row} → Q r → Each Q rs → Each Q (r ∷ rs)
+
+each-at : (Q : Row → Type 0) (rs : List Row) (k : ℕ) → Each Q rs → Q unknown → Q (getD rs k unknown)
+each-at Q [] k end u = u
+each-at Q (r ∷ rs) zero (p ▹ ps) u = p
+each-at Q (r ∷ rs) (suc k) (p ▹ ps) u = each-at Q rs k ps u
+
+-- a fact of every row
+every : (Q : Row → Type 0) → Each Q rows → Q unknown → (k : ℕ) → Q (rowOf k)
+unfolding rowOf
+every Q p u k = each-at Q rows k p u
+
+-- ---- the first child decides
+
+abbrev Decided : Row → Type 0
+Decided r = (w : Words) (facts verdicts : List ℤ) (x y : ℤ) → r .decides x ≡ true → r .value (seen w facts verdicts x y) ≡ x
+
+and-decided : Decided conjunction
+unfolding eqZ
+and-decided w facts verdicts x y e = rw (eq-true x (pos 0) e)
+
+or-decided : Decided disjunction
+unfolding eqZ
+or-decided w facts verdicts x y e = rw (eq-true x (pos 1) e)
+
+pub decided : (k : ℕ) → Decided (rowOf k)
+decided =
+    every Decided
+    ((λ w f v x y e. absurd (true-false e refl)) ▹ (λ w f v x y e. absurd (true-false e refl)) ▹ (λ w f v x y e. absurd (true-false e refl))
+    ▹ (λ w f v x y e. absurd (true-false e refl)) ▹ (λ w f v x y e. absurd (true-false e refl)) ▹ (λ w f v x y e. absurd (true-false e refl))
+    ▹ (λ w f v x y e. absurd (true-false e refl)) ▹ (λ w f v x y e. absurd (true-false e refl)) ▹ (λ w f v x y e. absurd (true-false e refl))
+    ▹ and-decided ▹ or-decided ▹ (λ w f v x y e. absurd (true-false e refl)) ▹ end)
+    (λ w f v x y e. absurd (true-false e refl))
+
+-- ---- the verdicts that matter
+
+-- two lists of verdicts that agree where P says so give one value, if P says so of each rule that is cited
+abbrev Cited : Row → Type 0
+Cited r =
+    (P : ℕ → Bool) (w : Words) (facts u v : List ℤ) (x y : ℤ) → allOf P (r .cites w) ≡ true →
+    ((c : ℕ) → P c ≡ true → getD u c (pos 0) ≡ getD v c (pos 0)) → r .value (seen w facts u x y) ≡ r .value (seen w facts v x y)
+
+present-cited : Cited present
+unfolding allOf
+present-cited P w facts u v x y a h = h (num (w .w1)) (and-left (P (num (w .w1))) true a)
+
+pub cited : (k : ℕ) → Cited (rowOf k)
+cited =
+    every Cited
+    ((λ P w f u v x y a h. refl) ▹ (λ P w f u v x y a h. refl) ▹ (λ P w f u v x y a h. refl) ▹ (λ P w f u v x y a h. refl)
+    ▹ (λ P w f u v x y a h. refl) ▹ (λ P w f u v x y a h. refl) ▹ (λ P w f u v x y a h. refl) ▹ (λ P w f u v x y a h. refl) ▹ present-cited
+    ▹ (λ P w f u v x y a h. refl) ▹ (λ P w f u v x y a h. refl) ▹ (λ P w f u v x y a h. refl) ▹ end)
+    (λ P w f u v x y a h. refl)
+
+-- ---- only "and" and "or" are decided
+
+pub undecided : (k : ℕ) → (k ≡ 9 → ⊥) → (k ≡ 10 → ⊥) → (x : ℤ) → rowOf k .decides x ≡ false
+unfolding rowOf
+undecided zero d e x = refl
+undecided (suc zero) d e x = refl
+undecided (suc (suc zero)) d e x = refl
+undecided (suc (suc (suc zero))) d e x = refl
+undecided (suc (suc (suc (suc zero)))) d e x = refl
+undecided (suc (suc (suc (suc (suc zero))))) d e x = refl
+undecided (suc (suc (suc (suc (suc (suc zero)))))) d e x = refl
+undecided (suc (suc (suc (suc (suc (suc (suc zero))))))) d e x = refl
+undecided (suc (suc (suc (suc (suc (suc (suc (suc zero)))))))) d e x = refl
+undecided (suc (suc (suc (suc (suc (suc (suc (suc (suc zero))))))))) d e x = absurd (d refl)
+undecided (suc (suc (suc (suc (suc (suc (suc (suc (suc (suc zero)))))))))) d e x = absurd (e refl)
+undecided (suc (suc (suc (suc (suc (suc (suc (suc (suc (suc (suc zero))))))))))) d e x = refl
+undecided (suc (suc (suc (suc (suc (suc (suc (suc (suc (suc (suc (suc k)))))))))))) d e x = refl

@@ -1,0 +1,17 @@
+-- `kinds::multiply` meets its contract. Assumes nothing.
+-- `rows::multiply` meets its contract: a word holds the product of two integers in −M..M. Assumes nothing.
+use Rattle.signed.proofs.Bounds.{small-true}
+use Rattle.signed.proofs.Fit.{back, fits-small}
+use Rattle.kinds.proofs.multiply.Statement.{statement}
+use Rattle.kinds.proofs.multiply.Tie as tie
+
+mul-result : tie.Need-mul-result
+mul-result c = rw (back (c .fits .a), back (c .fits .b)) (fits-small (small-true _ (c .pre)))
+
+returns : tie.Need-returns
+returns c =
+    rw (back (c .fits .a), back (c .fits .b))
+    (back (fits-small (small-true _ (c .pre))))
+
+pub multiply-spec : {M : Type 1} → statement M
+multiply-spec = tie.close (tie.spec mul-result returns)
