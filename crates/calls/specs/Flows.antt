@@ -17,7 +17,7 @@ use Rattle.facts.specs.Faults.{factsFault}
 use Rattle.facts.specs.Assembled.{assembled}
 use Rattle.predicate.specs.Verdicts.{verdictsOf}
 use Rattle.operation.specs.States.{statesFault}
-use Rattle.listing.specs.Paths.{stepsOf}
+use Rattle.walks.specs.Paths.{stepsOf}
 use Rattle.listing.specs.Calls.{firstWalk, firstLaid, nextWalk, nextLaid}
 use Rattle.run.specs.Runs.{ranWalk, ranPath, ranStates}
 use Rattle.ladder.specs.declared.Climbed.{Climbed}

@@ -9,8 +9,8 @@ use lib.ListN.{length, take}
 use Rattle.signed.specs.Words.{num}
 use Rattle.answer.specs.declared.Walk.the-variants.{Path as Walked, Refused as NoWalk}
 use Rattle.layout.specs.declared.Header.{Header}
-use Rattle.listing.specs.Paths.{stepsOf, paths, path, Among}
-use Rattle.listing.specs.Calls.{walkOf, laid}
+use Rattle.walks.specs.Paths.{stepsOf, paths, path, Among}
+use Rattle.walks.specs.Follows.{walkOf, laid}
 use Rattle.listing.specs.Lists.{Next, State}
 use Rattle.ladder.specs.declared.Climbed.the-variants.{At}
 use Rattle.ladder.specs.Ladder.{opened, exists}

@@ -10,8 +10,8 @@ use lib.ListN.{length}
 use Rattle.signed.specs.Words.{num}
 use Rattle.answer.specs.Answers.{walkAnswer}
 use Rattle.layout.specs.declared.Header.{Header}
-use Rattle.listing.specs.Paths.{path}
-use Rattle.listing.specs.Calls.{walkOf, laid}
+use Rattle.walks.specs.Paths.{path}
+use Rattle.walks.specs.Follows.{walkOf, laid}
 use Rattle.listing.specs.Lists.{Call, First, Next, State, count}
 use Rattle.calls.specs.Flows.{firstAnswer, firstPath, nextAnswer, nextPath}
 

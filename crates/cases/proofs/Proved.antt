@@ -30,10 +30,11 @@ use Rattle.operation.specs.Mask.{allowed}
 use Rattle.operation.specs.Outcomes.{ofOutcome, starts, moves, matched, unblocked, applicable, firstApplicable, chosen}
 use Rattle.operation.specs.States.{stateIn, firstStray, statesFault}
 use Rattle.attempt.specs.Attempts.{attemptedIf, attempted, statesAfter, attemptedStates}
-use Rattle.listing.specs.Calls.{begins, headOf, following, laid, firstWalk, firstLaid, answerOf, bufferOf, nextWalk, nextLaid}
-use Rattle.listing.specs.Depth.{greatest, depth}
-use Rattle.listing.specs.Paths.{firstRouteOf, routesOf, ends, target, lastOf, terminal, onward, inTurn, pathsFrom, paths, path}
-use Rattle.listing.specs.Walkers.{started, taken as taken-listing}
+use Rattle.walks.specs.Follows.{begins, headOf, following, laid}
+use Rattle.listing.specs.Calls.{firstWalk, firstLaid, answerOf, bufferOf, nextWalk, nextLaid}
+use Rattle.depth.specs.Depth.{greatest, depth}
+use Rattle.walks.specs.Paths.{firstRouteOf, routesOf, ends, target, lastOf, terminal, onward, inTurn, pathsFrom, paths, path}
+use Rattle.walks.specs.Walkers.{started, taken as taken-listing}
 use Rattle.run.specs.Runs.{answerRoute, branchRoute, routeTaken, statesThen, begun, stepped, runOn, ran, ranWalk, ranPath, ranStates}
 use Rattle.ladder.specs.Ladder.{then, unless, reached, opened, by, climb}
 use Rattle.calls.specs.Evaluation.{assembleRungs}

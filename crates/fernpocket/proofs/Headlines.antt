@@ -25,9 +25,9 @@ use Rattle.operation.specs.Mask.{inMask}
 use Rattle.operation.specs.States.{present}
 use Rattle.operation.specs.Outcomes.{moves}
 use Rattle.operation.proofs.Movers.{moves-true}
-use Rattle.listing.specs.Paths.{paths, WholeList}
+use Rattle.walks.specs.Paths.{paths, WholeList}
 use Rattle.listing.specs.Lists.{Call, First, nexts, count}
-use Rattle.listing.proofs.OnlyList.{paths-whole, only-list}
+use Rattle.walks.proofs.OnlyList.{paths-whole, only-list}
 use Rattle.reach.specs.Reached.{Reached}
 use Rattle.calls.specs.Evaluation.{assembleAnswer, assembleValues, verdictsAnswer, verdictsVerdicts, operateAnswer, operateStates}
 use Rattle.calls.specs.Flows.{firstAnswer, firstPath, nextAnswer, nextPath, runAnswer, runPath, runStates}

@@ -31,11 +31,12 @@ use Rattle.operation.proofs.Guarantees.{Fate, moved as Goes, unmoved as Stays, 
 use Rattle.facts.specs.Assembled.{assembled}
 use Rattle.predicate.specs.Verdicts.{verdictsOf}
 use Rattle.attempt.proofs.AttemptLaws.{Comes, barred, untrue, stuck, went, comes, outcome-states, refused-states}
-use Rattle.listing.specs.Paths.{PathOf, paths, Among}
-use Rattle.listing.specs.Calls.{Following, Absent, Final, Then, following, firstWalk, nextWalk, nextLaid, answerOf, bufferOf}
+use Rattle.walks.specs.Paths.{PathOf, paths, Among}
+use Rattle.walks.specs.Follows.{Following, Absent, Final, Then, following}
+use Rattle.listing.specs.Calls.{firstWalk, nextWalk, nextLaid, answerOf, bufferOf}
 use Rattle.listing.specs.Lists.{Call, First, Next, State, nexts, count}
 use Rattle.listing.specs.Inner.{Listed}
-use Rattle.listing.proofs.AllPaths.{path-list}
+use Rattle.walks.proofs.AllPaths.{path-list}
 use Rattle.run.proofs.RunPaths.{run-listed}
 use Rattle.reach.specs.Reached.{Reached}
 use Rattle.ladder.specs.declared.Climbed.{Climbed}

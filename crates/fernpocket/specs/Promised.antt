@@ -21,8 +21,8 @@ use Rattle.predicate.specs.Verdicts.{verdictsOf}
 use Rattle.operation.specs.Mask.{allowed}
 use Rattle.operation.specs.Outcomes.{moves, applicable}
 use Rattle.attempt.specs.Attempts.{precondition}
-use Rattle.listing.specs.Paths.{stepsOf, PathOf, terminal, paths, Among}
-use Rattle.listing.specs.Calls.{laid}
+use Rattle.walks.specs.Paths.{stepsOf, PathOf, terminal, paths, Among}
+use Rattle.walks.specs.Follows.{laid}
 use Rattle.listing.specs.Lists.{Next, State}
 use Rattle.ladder.specs.Ladder.{exists}
 use Rattle.calls.specs.Evaluation.{operateStates}

@@ -18,8 +18,8 @@ use Rattle.facts.specs.Assembled.{assembled}
 use Rattle.predicate.specs.Verdicts.{verdictsOf}
 use Rattle.predicate.proofs.VerdictLaws.{verdicts-true}
 use Rattle.operation.proofs.LentStates.{states-in}
-use Rattle.listing.specs.Paths.{stepsOf}
-use Rattle.listing.specs.Inner.{Lent}
+use Rattle.walks.specs.Paths.{stepsOf}
+use Rattle.walks.specs.Inner.{Lent}
 use Rattle.listing.proofs.Answers.{first-small, next-small}
 use Rattle.run.specs.Inner.{Runnable}
 use Rattle.run.proofs.RunPaths.{run-small}

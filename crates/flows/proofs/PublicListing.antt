@@ -16,8 +16,9 @@ use Rattle.answer.specs.declared.Status.the-variants.{Done}
 use Rattle.layout.specs.declared.Header.{Header}
 use Rattle.facts.specs.Assembled.{assembled}
 use Rattle.predicate.specs.Verdicts.{verdictsOf}
-use Rattle.listing.specs.Paths.{stepsOf, paths}
-use Rattle.listing.specs.Inner.{PathList, Lent, called, calledOn, Listed, readOff}
+use Rattle.walks.specs.Paths.{stepsOf, paths}
+use Rattle.walks.specs.Inner.{PathList, Lent}
+use Rattle.listing.specs.Inner.{called, calledOn, Listed, readOff}
 use Rattle.listing.specs.Lists.{Call, First, Next, State, nexts, count}
 use Rattle.listing.proofs.Listing.{calls-listed, listing, held-length, listing-whole, listing-paths}
 use Rattle.run.specs.Runs.{ran, ranPath}

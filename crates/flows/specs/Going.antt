@@ -5,7 +5,7 @@ use Prim.Native.Nat.{ℕ}
 use lib.IntN.{ℤ}
 use Rattle.layout.specs.declared.Header.{Header}
 use Rattle.operation.specs.Inner.{StatesIn}
-use Rattle.listing.specs.Inner.{Lent}
+use Rattle.walks.specs.Inner.{Lent}
 use Rattle.evaluate.specs.Settled.{LentFacts}
 
 -- lent facts without a fault, states of their entities, and a flow with room for its paths

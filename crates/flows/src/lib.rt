@@ -17,8 +17,8 @@ use ladder::then_facts;
 use ladder::then_states;
 use layout::Flow;
 use layout::Header;
-use listing::steps;
 use signed::num;
+use walks::steps;
 
 // Whether a path buffer is long enough. Where the flow does not exist, it is not judged.
 fn path_lent(s: &[i64], h: Header, flow: i64, room: usize) -> bool

@@ -13,12 +13,13 @@ use Rattle.answer.specs.declared.Refusal.the-variants.{NotPath}
 use Rattle.answer.specs.declared.Walk.the-variants.{Refused}
 use Rattle.layout.specs.declared.Header.{Header}
 use Rattle.records.specs.Accepted.{Accepted}
-use Rattle.listing.specs.Paths.{PathOf, paths, path}
-use Rattle.listing.specs.Calls.{begins, Following, Absent, Final, Then, headOf, following, walkOf, firstWalk, answerOf, nextWalk}
-use Rattle.listing.specs.Inner.{Lent}
-use Rattle.listing.proofs.Follow.{follow-here, follow-later}
-use Rattle.listing.proofs.Lists.{mem-at}
-use Rattle.listing.proofs.AllPaths.{path-small, paths-sound, paths-complete, paths-some}
+use Rattle.walks.specs.Paths.{PathOf, paths, path}
+use Rattle.walks.specs.Follows.{begins, Following, Absent, Final, Then, headOf, following, walkOf}
+use Rattle.listing.specs.Calls.{firstWalk, answerOf, nextWalk}
+use Rattle.walks.specs.Inner.{Lent}
+use Rattle.walks.proofs.Follow.{follow-here, follow-later}
+use Rattle.walks.proofs.Lists.{mem-at}
+use Rattle.walks.proofs.AllPaths.{path-small, paths-sound, paths-complete, paths-some}
 
 -- what follows is one of the list
 head-mem : (ps : List (List ℕ)) (p : List ℕ) → headOf ps ≡ Then p → List·Memᴰ p ps

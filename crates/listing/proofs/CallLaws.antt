@@ -12,17 +12,18 @@ use Rattle.answer.specs.declared.Refusal.the-variants.{NotPath, LastPath}
 use Rattle.answer.specs.declared.Walk.{Walk}
 use Rattle.answer.specs.declared.Walk.the-variants.{Refused}
 use Rattle.layout.specs.declared.Header.{Header}
-use Rattle.listing.specs.declared.Walker.{Walker}
-use Rattle.listing.specs.Paths.{firstRouteOf, paths, path}
-use Rattle.listing.specs.Walkers.{started, taken, arrived}
-use Rattle.listing.specs.Inner.{walked, remaining, firstWay, Going, Lent}
+use Rattle.walks.specs.declared.Walker.{Walker}
+use Rattle.walks.specs.Paths.{firstRouteOf, paths, path}
+use Rattle.walks.specs.Walkers.{started, taken, arrived}
+use Rattle.walks.specs.Inner.{walked, remaining, firstWay, Going, Lent}
 use Rattle.listing.specs.declared.Found.{Found}
 use Rattle.listing.specs.declared.Found.the-variants.{Nowhere, Last, Turn}
-use Rattle.listing.specs.Calls.{Absent, Final, Then, following, walkOf, laid, firstWalk, firstLaid, answerOf, bufferOf, nextWalk, nextLaid}
+use Rattle.walks.specs.Follows.{Absent, Final, Then, following, walkOf, laid}
+use Rattle.listing.specs.Calls.{firstWalk, firstLaid, answerOf, bufferOf, nextWalk, nextLaid}
 use Rattle.listing.specs.Seeks.{turnRoute, turned, turning, Turnable, CanTurn, Sought}
-use Rattle.listing.proofs.Ways.{way-route, paths-on}
-use Rattle.listing.proofs.Walks.{remaining-on, start-going, going-on, going-room, first-way, first-way-short, walked-length, arrives}
-use Rattle.listing.proofs.Buffers.{written, laid-same}
+use Rattle.walks.proofs.Ways.{way-route, paths-on}
+use Rattle.walks.proofs.Walks.{remaining-on, start-going, going-on, going-room, first-way, first-way-short, walked-length, arrives}
+use Rattle.walks.proofs.Buffers.{written, laid-same}
 use Rattle.listing.proofs.Seeking.{Seeking, seek-none}
 
 -- ---- finish: a walk by first routes, whose path is written and the rest cleared

@@ -1,13 +1,4 @@
-pub mod Ways
-pub mod Follow
-pub mod Lists
-pub mod AllPaths
-pub mod Buffers
 pub mod Answers
 pub mod Listing
-pub mod Walks
 pub mod Seeking
 pub mod CallLaws
-pub mod Depths
-pub mod Trails
-pub mod OnlyList

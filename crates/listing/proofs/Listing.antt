@@ -13,14 +13,16 @@ use borrow.Author.Tests.{eq-eqb, ne-eqb}
 use Rattle.answer.specs.declared.Refusal.the-variants.{LastPath}
 use Rattle.answer.specs.declared.Walk.the-variants.{Refused}
 use Rattle.layout.specs.declared.Header.{Header}
-use Rattle.listing.specs.Paths.{Before, here, later, paths, path}
-use Rattle.listing.specs.Inner.{PathList, Lent, called, calledOn, Listed, readOff}
-use Rattle.listing.specs.Calls.{begins, Final, Then, headOf, following, walkOf, laid, firstWalk, firstLaid, answerOf, bufferOf, nextWalk, nextLaid}
+use Rattle.walks.specs.Paths.{Before, here, later, paths, path}
+use Rattle.walks.specs.Inner.{PathList, Lent}
+use Rattle.listing.specs.Inner.{called, calledOn, Listed, readOff}
+use Rattle.walks.specs.Follows.{begins, Final, Then, headOf, following, walkOf, laid}
+use Rattle.listing.specs.Calls.{firstWalk, firstLaid, answerOf, bufferOf, nextWalk, nextLaid}
 use Rattle.listing.specs.Lists.{Call, First, Next, State, nexts, count}
-use Rattle.listing.proofs.Follow.{follow-here, follow-later}
-use Rattle.listing.proofs.Buffers.{laid-same, length-laid}
-use Rattle.listing.proofs.Lists.{Ordered, none, more, mem-at}
-use Rattle.listing.proofs.AllPaths.{path-list, paths-some, paths-ordered, path-sound, paths-short}
+use Rattle.walks.proofs.Follow.{follow-here, follow-later}
+use Rattle.walks.proofs.Buffers.{laid-same, length-laid}
+use Rattle.walks.proofs.Lists.{Ordered, none, more, mem-at}
+use Rattle.walks.proofs.AllPaths.{path-list, paths-some, paths-ordered, path-sound, paths-short}
 
 -- ---- the path that follows path n
 

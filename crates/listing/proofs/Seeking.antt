@@ -13,18 +13,18 @@ use lib.Seq.{take-suc, drop-cons}
 use borrow.Author.Tests.{not-true, not-false}
 use Rattle.layout.specs.declared.Header.{Header}
 use Rattle.records.specs.Accepted.{Accepted}
-use Rattle.listing.specs.declared.Walker.{Walker}
+use Rattle.walks.specs.declared.Walker.{Walker}
 use Rattle.listing.specs.declared.Found.{Found}
 use Rattle.listing.specs.declared.Found.the-variants.{Nowhere, Last, Turn}
-use Rattle.listing.specs.Paths.{firstRouteOf, routesOf, routesEndOf, RouteOf, inTurn}
-use Rattle.listing.specs.Walkers.{taken}
-use Rattle.listing.specs.Inner.{pathsAfter, remaining, Going}
-use Rattle.listing.specs.Calls.{begins, Following, Absent, Final, headOf, following}
+use Rattle.walks.specs.Paths.{firstRouteOf, routesOf, routesEndOf, RouteOf, inTurn}
+use Rattle.walks.specs.Walkers.{taken}
+use Rattle.walks.specs.Inner.{pathsAfter, remaining, Going}
+use Rattle.walks.specs.Follows.{begins, Following, Absent, Final, headOf, following}
 use Rattle.listing.specs.Seeks.{routeAt, turned, turning, CanTurn}
-use Rattle.listing.proofs.Ways.{way-ends, step-paths}
-use Rattle.listing.proofs.AllPaths.{some-onward}
-use Rattle.listing.proofs.Walks.{remaining-on, remaining-done, remaining-taken, going-on, going-room, going-step}
-use Rattle.listing.proofs.Follow.{resolve, resolve-none, resolve-more, turn-absent, turn-follow, turn-first, turn-some, head-some}
+use Rattle.walks.proofs.Ways.{way-ends, step-paths}
+use Rattle.walks.proofs.AllPaths.{some-onward}
+use Rattle.walks.proofs.Walks.{remaining-on, remaining-done, remaining-taken, going-on, going-room, going-step}
+use Rattle.walks.proofs.Follow.{resolve, resolve-none, resolve-more, turn-absent, turn-follow, turn-first, turn-some, head-some}
 
 -- the walk has come from w₀ to w along the buffer, and `turn` is the last place where a later route could be taken
 pub record Seeking (s : List ℤ) (h : Header) (b : List ℕ) (w₀ w : Walker) (turn : Found) : Type 0 where

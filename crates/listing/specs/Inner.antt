@@ -1,87 +1,18 @@
 -- What the inner functions ask and answer, and what proofs speak of. The definitions of the other files do not rest on these.
 -- Assumes nothing.
-use mathlib.Core.Bool.{true, false}
 use mathlib.Core.List.{List, [], _∷_}
-use Prim.Native.Nat.{ℕ, _-_, _≤_, _<_, zero, suc, _+_, max, min}
+use Prim.Native.Nat.{ℕ, _-_, _≤_, _<_, zero, suc, min}
 use lib.IntN.{ℤ}
-use lib.ListN.{length, getD, take}
+use lib.ListN.{length, take}
 use Rattle.answer.specs.declared.Refusal.the-variants.{LastPath}
 use Rattle.answer.specs.declared.Walk.the-variants.{Path as Walked, Refused}
 use Rattle.layout.specs.declared.Header.{Header}
-use Rattle.records.specs.Accepted.{Accepted}
-use Rattle.listing.specs.Paths.{stepsOf, terminal, paths, path, firstRouteOf, routesOf, ends, target, WholeList, onward, pathsFrom, last, next, later}
-use Rattle.listing.specs.Calls.{walkOf, laid, firstWalk, firstLaid, nextWalk, nextLaid}
+use Rattle.walks.specs.Paths.{terminal, paths, path, last, next}
+use Rattle.walks.specs.Follows.{walkOf, laid}
+use Rattle.listing.specs.Calls.{firstWalk, firstLaid, nextWalk, nextLaid}
 use mathlib.Core.Path.{_≡_}
-use Rattle.layout.specs.Tables.{flow, step, route, stepStartOf}
-use Rattle.records.specs.Flows.{stepsEnd}
-use Rattle.listing.specs.declared.Walker.{Walker}
-use Rattle.listing.specs.Walkers.{taken}
-use Rattle.listing.specs.Depth.{greatest}
 use mathlib.Core.Logic.{_↔_}
 use Rattle.listing.specs.Lists.{Call, State, nexts, count, First, Next}
-
--- what first and next ask for: an accepted sheet, a flow of it, and a buffer at least as long as the flow has steps
-pub record Lent (s : List ℤ) (h : Header) (f : ℕ) (b : List ℕ) : Type 0 where
-  pub sheet : Accepted s h
-  pub flow : f < h .flows
-  pub room : stepsOf s h f ≤ length b
-
--- and there is a path
-pub record PathList (s : List ℤ) (h : Header) (f : ℕ) (ps : List (List ℕ)) : Type 0 where
-  pub some : 1 ≤ length ps
-  pub whole : WholeList s h f ps
-
--- it takes one route after the other
-unfoldable pub walked : List ℤ → Header → Walker → List ℕ → Walker
-walked s h w [] = w
-walked s h w (r ∷ p) = walked s h (taken s h w r) p
-
--- the paths from step i; no flow has more steps than the sheet
-unfoldable pub pathsOn : List ℤ → Header → ℕ → List (List ℕ)
-pathsOn s h i = pathsFrom s h (h .steps) i
-
--- what can follow route r
-abbrev pub pathsAfter : List ℤ → Header → ℕ → List (List ℕ)
-pathsAfter s h r = onward s h (pathsOn s h) r
-
--- what a walker can still take: nothing once it is finished
-unfoldable pub remaining : List ℤ → Header → Walker → List (List ℕ)
-remaining s h w = elim (w .finished) [ true ↦ [] ∷ [] | false ↦ pathsOn s h (w .step) ]
-
--- the first of them: first routes alone
-abbrev pub firstWay : List ℤ → Header → Walker → List ℕ
-firstWay s h w = getD (remaining s h w) 0 []
-
--- i is a step of a flow, and at most n of its steps are left, itself counted
-pub record Way (s : List ℤ) (h : Header) (i n : ℕ) : Type 0 where
-  pub of : ℕ
-  pub exists : of < h .flows
-  pub low : stepStartOf (flow s h of) ≤ i
-  pub high : i < stepsEnd s h of
-  pub left : stepsEnd s h of ≤ i + n
-
--- on an accepted sheet: a walker that is not finished is on its way, and has room for it in a buffer
-pub record Going (s : List ℤ) (h : Header) (w : Walker) (room : ℕ) : Type 0 where
-  pub sheet : Accepted s h
-  pub short : w .length ≤ room
-  pub way : w .finished ≡ false → Way s h (w .step) (room - w .length)
-
--- the greatest of f at the n numbers from i on
-unfoldable pub maxFrom : (ℕ → ℕ) → ℕ → ℕ → ℕ
-maxFrom f i zero = 0
-maxFrom f i (suc n) = max (f i) (maxFrom f (suc i) n)
-
--- steps on the longest way by route r, where d has those from each later step
-unfoldable pub routeDepth : List ℤ → Header → List ℕ → ℕ → ℕ
-routeDepth s h d r = elim (ends s h r) [ true ↦ 1 | false ↦ getD d (target s h r) 0 + 1 ]
-
--- and from step i
-unfoldable pub stepDepth : List ℤ → Header → List ℕ → ℕ → ℕ
-stepDepth s h d i = maxFrom (routeDepth s h d) (firstRouteOf s h i) (routesOf s h i)
-
--- no entry is above the number of steps that a sheet can have
-pub record Shallow (d : List ℕ) : Type 0 where
-  pub each : (j : ℕ) → getD d j 0 ≤ 256
 
 unfoldable pub called : List ℤ → Header → ℕ → List ℕ → Call → State
 called s h f b First = record { buffer = firstLaid s h f b; answer = firstWalk s h f }

@@ -6,7 +6,7 @@ use lib.IntN.{ℤ}
 use lib.ListN.{length}
 use Rattle.answer.specs.declared.Walk.{Walk}
 use Rattle.layout.specs.declared.Header.{Header}
-use Rattle.listing.specs.Paths.{paths}
+use Rattle.walks.specs.Paths.{paths}
 
 -- such a list holds first and next alone
 pub data Call : Type 0 where

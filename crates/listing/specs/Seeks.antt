@@ -7,13 +7,13 @@ use Prim.Native.Nat.{ℕ, _+_}
 use lib.IntN.{ℤ}
 use lib.ListN.{length, getD, take}
 use Rattle.layout.specs.declared.Header.{Header}
-use Rattle.listing.specs.declared.Walker.{Walker}
+use Rattle.walks.specs.declared.Walker.{Walker}
 use Rattle.listing.specs.declared.Found.{Found}
 use Rattle.listing.specs.declared.Found.the-variants.{Nowhere, Last, Turn}
-use Rattle.listing.specs.Paths.{RouteOf, paths}
-use Rattle.listing.specs.Walkers.{taken}
-use Rattle.listing.specs.Inner.{firstWay, Going}
-use Rattle.listing.specs.Calls.{Following, Absent, Final, Then, following}
+use Rattle.walks.specs.Paths.{RouteOf, paths}
+use Rattle.walks.specs.Walkers.{taken}
+use Rattle.walks.specs.Inner.{firstWay, Going}
+use Rattle.walks.specs.Follows.{Following, Absent, Final, Then, following}
 
 -- the route that the buffer has where the walker stands, and the one after it
 abbrev pub routeAt : List ℕ → Walker → ℕ

@@ -1,31 +1,22 @@
-// The paths of a flow: first, next and the longest.
+// The paths of a flow, one after the other: first and next.
 ghost use mathlib.Core.Path.{_≡_};
 ghost use mathlib.Core.List.{_++_};
-ghost use Prim.Native.Nat.{_+_, _-_, _^_, _≤_, _<_};
-ghost use lib.ListN.{length, take, replicate};
+ghost use Prim.Native.Nat.{_+_, _-_, _≤_, _<_};
+ghost use lib.ListN.{length, take};
 ghost use lib.Seq.{sets};
-ghost use Rattle.layout.specs.Sized.{Sized};
-ghost use Rattle.records.specs.Accepted.{Accepted};
-ghost use Rattle.listing.specs.Paths.{firstStepOf, stepsOf, firstRouteOf, routesOf, ends, target};
-ghost use Rattle.listing.specs.Walkers.{started, taken, arrived};
-ghost use Rattle.listing.specs.Inner.{walked, firstWay, Going, Lent, routeDepth, stepDepth, Shallow};
-ghost use Rattle.listing.specs.Calls.{laid, firstWalk, firstLaid, nextWalk, nextLaid};
+ghost use Rattle.walks.specs.Walkers.{arrived};
+ghost use Rattle.walks.specs.Follows.{laid};
+ghost use Rattle.walks.specs.Inner.{walked, firstWay, Going, Lent};
+ghost use Rattle.listing.specs.Calls.{firstWalk, firstLaid, nextWalk, nextLaid};
 ghost use Rattle.listing.specs.Seeks.{Sought};
-ghost use Rattle.listing.specs.Depth.{depth};
 use answer::Refusal;
 use answer::Walk;
 use layout::Flow;
 use layout::Header;
-use layout::place;
-use tables::entry;
-use words::number;
-
-// Where a walk along a flow stands: the step that it comes to, or the terminal once it is finished, and how many routes it has taken.
-pub struct Walker {
-    pub step: usize,
-    pub length: usize,
-    pub finished: bool,
-}
+use walks::Walker;
+use walks::clear;
+use walks::first_route;
+use walks::routes;
 
 // Where the path that follows a buffer's path leaves it.
 enum Found {
@@ -35,91 +26,6 @@ enum Found {
     Last,
     // Where this walker stands, by the next route of its step.
     Turn(Walker),
-}
-
-// A flow's first step.
-fn first_step(s: &[i64], h: Header, flow: Flow) -> usize
-    requires { ⌜ Sized (now s) h ⌝ }
-    requires { ⌜ flow .0 < h .flows ⌝ }
-    ensures { λ r. ⌜ r ≡ firstStepOf (now (s .entry)) h (flow .0) ⌝ }
-{
-    let f = flow.0;
-    number(s, h.first_flow() + f, place::FLOW_FIRST_STEP)
-}
-
-// How many steps a flow has: a path buffer is at least as long.
-pub fn steps(s: &[i64], h: Header, flow: Flow) -> usize
-    requires { ⌜ Sized (now s) h ⌝ }
-    requires { ⌜ flow .0 < h .flows ⌝ }
-    ensures { λ r. ⌜ r ≡ stepsOf (now (s .entry)) h (flow .0) ⌝ }
-{
-    let f = flow.0;
-    number(s, h.first_flow() + f, place::FLOW_STEPS)
-}
-
-// The first route of a step; its routes follow each other.
-pub fn first_route(s: &[i64], h: Header, step: usize) -> usize
-    requires { ⌜ Sized (now s) h ⌝ }
-    requires { ⌜ step < h .steps ⌝ }
-    ensures { λ r. ⌜ r ≡ firstRouteOf (now (s .entry)) h step ⌝ }
-{
-    number(s, h.first_step() + step, place::STEP_FIRST_ROUTE)
-}
-
-// How many routes a step has.
-pub fn routes(s: &[i64], h: Header, step: usize) -> usize
-    requires { ⌜ Sized (now s) h ⌝ }
-    requires { ⌜ step < h .steps ⌝ }
-    ensures { λ r. ⌜ r ≡ routesOf (now (s .entry)) h step ⌝ }
-{
-    number(s, h.first_step() + step, place::STEP_ROUTES)
-}
-
-// Whether a route ends at a terminal.
-fn ends(s: &[i64], h: Header, route: usize) -> bool
-    requires { ⌜ Sized (now s) h ⌝ }
-    requires { ⌜ route < h .routes ⌝ }
-    ensures { λ r. ⌜ r ≡ ends (now (s .entry)) h route ⌝ }
-{
-    number(s, h.first_step() + h.steps + route, place::ROUTE_KIND) == 1
-}
-
-// The step or the terminal that a route leads to.
-fn target(s: &[i64], h: Header, route: usize) -> usize
-    requires { ⌜ Sized (now s) h ⌝ }
-    requires { ⌜ route < h .routes ⌝ }
-    ensures { λ r. ⌜ r ≡ target (now (s .entry)) h route ⌝ }
-{
-    number(s, h.first_step() + h.steps + route, place::ROUTE_TARGET)
-}
-
-impl Walker {
-    // At a flow's first step.
-    pub fn start(s: &[i64], h: Header, flow: Flow) -> Walker
-        requires { ⌜ Sized (now s) h ⌝ }
-        requires { ⌜ flow .0 < h .flows ⌝ }
-        ensures { λ w. ⌜ w ≡ started (now (s .entry)) h (flow .0) ⌝ }
-    {
-        Walker {
-            step: first_step(s, h, flow),
-            length: 0,
-            finished: false,
-        }
-    }
-
-    // One step of a flow hands on the next step, or the terminal.
-    pub fn take(self, s: &[i64], h: Header, route: usize) -> Walker
-        requires { ⌜ Sized (now s) h ⌝ }
-        requires { ⌜ route < h .routes ⌝ }
-        requires { ⌜ self .length < 2 ^ 63 ⌝ }
-        ensures { λ w. ⌜ w ≡ taken (now (s .entry)) h self route ⌝ }
-    {
-        Walker {
-            step: target(s, h, route),
-            length: self.length + 1,
-            finished: ends(s, h, route),
-        }
-    }
 }
 
 // Goes on by first routes to a terminal, and writes them down.
@@ -136,18 +42,6 @@ fn descend(s: &[i64], h: Header, from: Walker, path: &mut [u16]) -> Walker
         w = w.take(s, h, route);
     }
     w
-}
-
-// Writes 0 from entry `from` on.
-pub fn clear(path: &mut [u16], from: usize)
-    requires { ⌜ from ≤ length (now path) ⌝ }
-    ensures { λ r. ⌜ now (path .exit) ≡ take from (now (path .entry)) ++ replicate (length (now (path .entry)) - from) 0 ⌝ }
-{
-    let mut i = from;
-    while i < path.len() {
-        path[i] = 0;
-        i += 1;
-    }
 }
 
 // Goes on to a terminal by first routes, and clears the buffer past the path.
@@ -216,55 +110,4 @@ pub fn next(s: &[i64], h: Header, flow: Flow, path: &mut [u16]) -> Walk
             finish(s, h, w.take(s, h, route), path)
         }
     }
-}
-
-// How many steps the longest way by a route has, itself counted; `depths` has those from each later step.
-fn route_depth(s: &[i64], h: Header, depths: &[usize], route: usize) -> usize
-    requires { ⌜ Sized (now s) h ⌝ }
-    requires { ⌜ route < h .routes ⌝ }
-    requires { ⌜ Shallow (now depths) ⌝ }
-    ensures { λ r. ⌜ r ≡ routeDepth (now (s .entry)) h (now (depths .entry)) route ⌝ }
-{
-    if ends(s, h, route) {
-        1
-    } else {
-        entry(depths, target(s, h, route)) + 1
-    }
-}
-
-// How many steps the longest way from a step has, itself counted.
-fn step_depth(s: &[i64], h: Header, depths: &[usize], step: usize) -> usize
-    requires { ⌜ Accepted (now s) h ⌝ }
-    requires { ⌜ step < h .steps ⌝ }
-    requires { ⌜ Shallow (now depths) ⌝ }
-    ensures { λ r. ⌜ r ≡ stepDepth (now (s .entry)) h (now (depths .entry)) step ⌝ }
-{
-    let mut route = first_route(s, h, step);
-    let end = route + routes(s, h, step);
-    let mut most = 0;
-    while route < end {
-        let depth = route_depth(s, h, depths, route);
-        if most < depth {
-            most = depth;
-        }
-        route += 1;
-    }
-    most
-}
-
-// S7: the number of steps on a flow's longest path.
-pub fn longest(s: &[i64], h: Header, flow: Flow) -> usize
-    requires { ⌜ Accepted (now s) h ⌝ }
-    requires { ⌜ flow .0 < h .flows ⌝ }
-    ensures { λ r. ⌜ r ≡ depth (now (s .entry)) h (flow .0) ⌝ }
-{
-    let first = first_step(s, h, flow);
-    let mut step = first + steps(s, h, flow);
-    let mut depths = [0usize; Header::STEPS];
-    while first < step {
-        step -= 1;
-        let depth = step_depth(s, h, &depths, step);
-        depths[step] = depth;
-    }
-    depths[first]
 }

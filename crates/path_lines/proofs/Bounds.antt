@@ -12,11 +12,11 @@ use Rattle.layout.specs.declared.Header.{Header}
 use Rattle.records.specs.Accepted.{Accepted}
 use Rattle.decimal.specs.Decimal.{digits, sign, decimal}
 use Rattle.decimal.proofs.Writing.{width-in}
-use Rattle.listing.specs.Paths.{PathFrom, last, next, PathOf, ends, target, terminal, stepsOf, path}
-use Rattle.listing.specs.Inner.{Way}
+use Rattle.walks.specs.Paths.{PathFrom, last, next, PathOf, ends, target, terminal, stepsOf, path}
+use Rattle.walks.specs.Inner.{Way}
 use Rattle.listing.specs.Lists.{count}
-use Rattle.listing.proofs.Ways.{way-start, way-on, way-route}
-use Rattle.listing.proofs.AllPaths.{path-sound, path-small}
+use Rattle.walks.proofs.Ways.{way-start, way-on, way-route}
+use Rattle.walks.proofs.AllPaths.{path-sound, path-small}
 use Rattle.path_lines.specs.Output.{numbersLine, pathLine}
 use Rattle.path_lines.specs.Chunks.{longestLine}
 use Rattle.path_lines.specs.Steps.{endingOf, numberField}

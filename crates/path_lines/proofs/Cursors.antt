@@ -17,12 +17,13 @@ use Rattle.answer.specs.declared.Walk.{Walk}
 use Rattle.answer.specs.declared.Walk.the-variants.{Path as Walked, Refused}
 use Rattle.layout.specs.declared.Header.{Header}
 use Rattle.records.proofs.FlowLaws.{flow-ok}
-use Rattle.listing.specs.Paths.{paths, path, terminal}
-use Rattle.listing.specs.Calls.{Following, following, walkOf, laid, firstWalk, firstLaid, answerOf, bufferOf, nextWalk, nextLaid}
-use Rattle.listing.specs.Inner.{Lent}
+use Rattle.walks.specs.Paths.{paths, path, terminal}
+use Rattle.walks.specs.Follows.{Following, following, walkOf, laid}
+use Rattle.listing.specs.Calls.{firstWalk, firstLaid, answerOf, bufferOf, nextWalk, nextLaid}
+use Rattle.walks.specs.Inner.{Lent}
 use Rattle.listing.specs.Lists.{count}
-use Rattle.listing.proofs.AllPaths.{paths-some}
-use Rattle.listing.proofs.Buffers.{laid-same, length-laid}
+use Rattle.walks.proofs.AllPaths.{paths-some}
+use Rattle.walks.proofs.Buffers.{laid-same, length-laid}
 use Rattle.listing.proofs.Listing.{then-next, then-none}
 use Rattle.text.specs.Lines.{join}
 use Rattle.path_lines.specs.Output.{pathLine, most, flowLines, flowsLines, sheetLines, cutFlow, someCut, noticeOf, sheetNotice}

@@ -10,8 +10,8 @@ use lib.IntN.{ℤ}
 use lib.ListN.{length, take, drop, length-append, replicate}
 use lib.Seq.{sets, sets-eq, length-sets, take-at, drop-at, drop-drop, length-take-le, take-append-seam}
 use Rattle.layout.specs.declared.Header.{Header}
-use Rattle.listing.specs.Paths.{path, terminal}
-use Rattle.listing.specs.Calls.{laid}
+use Rattle.walks.specs.Paths.{path, terminal}
+use Rattle.walks.specs.Follows.{laid}
 use Rattle.decimal.specs.Decimal.{M}
 use Rattle.path_lines.specs.Output.{numbersLine, pathLine}
 use Rattle.path_lines.specs.Chunks.{remaining, longestLine, Stands, Follows, Chunk}

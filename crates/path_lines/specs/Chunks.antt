@@ -7,8 +7,8 @@ use lib.IntN.{ℤ}
 use lib.ListN.{length, take, drop}
 use Rattle.layout.specs.declared.Header.{Header}
 use Rattle.records.specs.Accepted.{Accepted}
-use Rattle.listing.specs.Paths.{paths, path, terminal}
-use Rattle.listing.specs.Calls.{laid}
+use Rattle.walks.specs.Paths.{paths, path, terminal}
+use Rattle.walks.specs.Follows.{laid}
 use Rattle.listing.specs.Lists.{count}
 use Rattle.text.specs.Lines.{join}
 use Rattle.path_lines.specs.Output.{pathLine, most, flowsLines, someCut}

@@ -12,7 +12,7 @@ use Rattle.answer.specs.declared.Refusal.the-variants.{NoRoom}
 use Rattle.answer.specs.declared.Count.{Count}
 use Rattle.answer.specs.declared.Count.the-variants.{Is, Refused as NoCount}
 use Rattle.layout.specs.declared.Header.{Header}
-use Rattle.listing.specs.Paths.{paths, terminal}
+use Rattle.walks.specs.Paths.{paths, terminal}
 use Rattle.ladder.specs.declared.Climbed.{Climbed}
 use Rattle.ladder.specs.Ladder.{opened, by}
 use Rattle.text.specs.Lines.{join, line, goodLine, linesOf, wordsOf}

@@ -21,9 +21,9 @@ use Rattle.records.proofs.RuleLaws.{rule-ok}
 use Rattle.records.proofs.FlowLaws.{flow-ok}
 use Rattle.tree.specs.Sizes.{treeSize}
 use Rattle.tree.proofs.SizeLaws.{size-small}
-use Rattle.listing.specs.Depth.{depth}
-use Rattle.listing.proofs.Ways.{way-start, paths-on}
-use Rattle.listing.proofs.Depths.{depth-short}
+use Rattle.depth.specs.Depth.{depth}
+use Rattle.walks.proofs.Ways.{way-start, paths-on}
+use Rattle.depth.proofs.Depths.{depth-short}
 use Rattle.reach.specs.Reached.{reachable}
 use Rattle.reach.proofs.Rounds.{mask-small}
 use Rattle.causes.specs.Causes.{admissible, canCause}

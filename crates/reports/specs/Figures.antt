@@ -8,7 +8,7 @@ use Rattle.records.specs.Entities.{states}
 use Rattle.records.specs.Rules.{stratum}
 use Rattle.records.specs.Operations.{outcomes}
 use Rattle.tree.specs.Sizes.{treeSize}
-use Rattle.listing.specs.Depth.{depth}
+use Rattle.depth.specs.Depth.{depth}
 use Rattle.reach.specs.Reached.{reachable}
 use Rattle.reports.specs.declared.Report.{Report}
 use Rattle.reports.specs.declared.Report.the-variants.{States, Reachable, Stratum, Outcomes, TreeSize, Depth}

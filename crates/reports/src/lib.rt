@@ -8,6 +8,7 @@ ghost use Rattle.calls.specs.Reports.{admissibleAnswer, canCauseAnswer, rulesAn
 ghost use Rattle.ladder.specs.Ladder.{exists};
 ghost use Rattle.reports.specs.Figures.{size, figure};
 use answer::Count;
+use depth::longest;
 use ladder::Climbed;
 use ladder::exists;
 use ladder::judge_call;
@@ -20,7 +21,6 @@ use layout::Node;
 use layout::Operation;
 use layout::Persona;
 use layout::Rule;
-use listing::longest;
 use reach::reachable;
 use records::outcomes_of;
 use records::states_of;

@@ -16,12 +16,12 @@ use Rattle.layout.specs.Tables.{flow}
 use Rattle.records.specs.Flows.{flowOf}
 use Rattle.records.proofs.FlowLaws.{flow-ok, flow-of}
 use Rattle.operation.specs.Inner.{StatesIn}
-use Rattle.listing.specs.declared.Walker.{Walker}
-use Rattle.listing.specs.Paths.{stepsOf}
-use Rattle.listing.specs.Walkers.{started, taken}
-use Rattle.listing.specs.Calls.{laid}
-use Rattle.listing.proofs.Trails.{trail-going}
-use Rattle.listing.proofs.Walks.{going-room}
+use Rattle.walks.specs.declared.Walker.{Walker}
+use Rattle.walks.specs.Paths.{stepsOf}
+use Rattle.walks.specs.Walkers.{started, taken}
+use Rattle.walks.specs.Follows.{laid}
+use Rattle.walks.proofs.Trails.{trail-going}
+use Rattle.walks.proofs.Walks.{going-room}
 use Rattle.run.specs.Runs.{routeTaken, statesThen, Running, begun, stepped, runOn, ran, ranWalk, ranPath, ranStates}
 use Rattle.run.specs.Inner.{Steppable, Runnable}
 use Rattle.run.proofs.StepLaws.{route-of, routes-end}

@@ -12,13 +12,13 @@ use Rattle.tables.proofs.Bools.{bool-cases}
 use Rattle.answer.specs.Inner.{SmallWalk}
 use Rattle.layout.specs.declared.Header.{Header}
 use Rattle.operation.specs.Inner.{StatesIn}
-use Rattle.listing.specs.Paths.{stepsOf}
-use Rattle.listing.specs.Walkers.{taken}
-use Rattle.listing.specs.Inner.{Lent}
-use Rattle.listing.proofs.AllPaths.{path-small}
-use Rattle.listing.proofs.Buffers.{length-laid}
-use Rattle.listing.proofs.Walks.{going-room, going-step}
-use Rattle.listing.proofs.Trails.{Trail, begun as set-out, went, trail-going, trail-is-path, trail-listed, trail-short, trail-arrives}
+use Rattle.walks.specs.Paths.{stepsOf}
+use Rattle.walks.specs.Walkers.{taken}
+use Rattle.walks.specs.Inner.{Lent}
+use Rattle.walks.proofs.AllPaths.{path-small}
+use Rattle.walks.proofs.Buffers.{length-laid}
+use Rattle.walks.proofs.Walks.{going-room, going-step}
+use Rattle.walks.proofs.Trails.{Trail, begun as set-out, went, trail-going, trail-is-path, trail-listed, trail-short, trail-arrives}
 use Rattle.run.specs.Runs.{routeTaken, Running, begun, stepped, runOn, ran, ranWalk, ranPath, ranStates}
 use Rattle.run.specs.Inner.{Steppable, Runnable, Taken}
 use Rattle.run.proofs.StepLaws.{route-of, states-then-in}

@@ -24,8 +24,8 @@ use Rattle.operation.specs.Ready.{Ready}
 use Rattle.attempt.specs.Attempts.{precondition, attemptedIf, attempted, attemptedStates}
 use Rattle.attempt.specs.Inner.{Attemptable, attemptedStatesIf}
 use Rattle.attempt.proofs.AttemptLaws.{refused-states, outcome-below, attempted-in, evaluable as condition, attempt-admits}
-use Rattle.listing.specs.Paths.{firstRouteOf, routesOf, RouteOf}
-use Rattle.listing.proofs.Ways.{step-ends}
+use Rattle.walks.specs.Paths.{firstRouteOf, routesOf, RouteOf}
+use Rattle.walks.proofs.Ways.{step-ends}
 use Rattle.run.specs.Runs.{performs, operationAt, personaAt, nodeAt, answerRoute, branchRoute, routeTaken, statesThen}
 use Rattle.run.specs.Inner.{Steppable}
 

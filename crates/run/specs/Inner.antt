@@ -13,9 +13,9 @@ use Rattle.records.specs.Accepted.{Accepted}
 use Rattle.facts.specs.Inner.{FactsIn}
 use Rattle.predicate.specs.Inner.{Truths}
 use Rattle.operation.specs.Inner.{StatesIn}
-use Rattle.listing.specs.Paths.{stepsOf, paths, Among}
-use Rattle.listing.specs.Calls.{walkOf}
-use Rattle.listing.specs.Inner.{Lent}
+use Rattle.walks.specs.Paths.{stepsOf, paths, Among}
+use Rattle.walks.specs.Follows.{walkOf}
+use Rattle.walks.specs.Inner.{Lent}
 use Rattle.run.specs.Runs.{Running}
 
 -- what step i asks, besides states of their entities: an accepted sheet, facts in their ranges, verdicts, and that there is such a step

@@ -13,10 +13,10 @@ use Rattle.layout.specs.declared.Header.{Header}
 use Rattle.layout.specs.Tables.{step, kindOf, nodeNamed, personaNamed, operationNamed}
 use Rattle.predicate.specs.Values.{truth}
 use Rattle.attempt.specs.Attempts.{attempted, attemptedStates}
-use Rattle.listing.specs.declared.Walker.{Walker}
-use Rattle.listing.specs.Paths.{stepsOf, firstRouteOf, routesOf}
-use Rattle.listing.specs.Walkers.{started, taken, arrived}
-use Rattle.listing.specs.Calls.{laid}
+use Rattle.walks.specs.declared.Walker.{Walker}
+use Rattle.walks.specs.Paths.{stepsOf, firstRouteOf, routesOf}
+use Rattle.walks.specs.Walkers.{started, taken, arrived}
+use Rattle.walks.specs.Follows.{laid}
 
 -- ---- one step
 

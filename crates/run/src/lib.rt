@@ -23,12 +23,12 @@ use layout::Node;
 use layout::Operation;
 use layout::Persona;
 use layout::place;
-use listing::Walker;
-use listing::clear;
-use listing::first_route;
-use listing::routes;
 use operation::allows;
 use predicate::is_true;
+use walks::Walker;
+use walks::clear;
+use walks::first_route;
+use walks::routes;
 use words::number;
 
 // Word j of a step's record.

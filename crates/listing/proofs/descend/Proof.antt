@@ -2,7 +2,7 @@
 use native.Mathlib.Omega.{arith}
 use Prim.Native.Nat.{_-_}
 use lib.ListN.{length}
-use Rattle.listing.proofs.Walks.{Descending, descend-none, descend-done, descend-step, descend-route, descend-room, descend-more, descend-less}
+use Rattle.walks.proofs.Walks.{Descending, descend-none, descend-done, descend-step, descend-route, descend-room, descend-more, descend-less}
 use Rattle.listing.proofs.descend.Statement.{statement}
 use Rattle.listing.proofs.descend.Tie as tie
 

@@ -1,6 +1,6 @@
 -- `listing::first` meets its contract: the walk starts at the first step and goes by first routes. Assumes nothing.
 use Rattle.listing.proofs.CallLaws.{first-done}
-use Rattle.listing.proofs.Walks.{start-going}
+use Rattle.walks.proofs.Walks.{start-going}
 use Rattle.listing.proofs.first.Statement.{statement}
 use Rattle.listing.proofs.first.Tie as tie
 

@@ -1,0 +1,4 @@
+pub mod Paths
+pub mod Walkers
+pub mod Follows
+pub mod Inner
