@@ -1,13 +1,15 @@
--- What only one kind has: a verdict-present cites a rule, a fact node reads a fact.
+-- What only some kinds have: a verdict-present cites a rule, a fact node reads a fact; which kinds have children.
 -- Assumes nothing.
 use mathlib.Core.Path.{_≡_, refl}
-use mathlib.Core.List.{List, []}
+use mathlib.Core.List.{List, [], _∷_}
+use native.Mathlib.Omega.{arith}
 use Prim.Native.Nat.{ℕ, zero, suc}
 use Rattle.words.specs.declared.Words.{Words}
 use Rattle.item.specs.declared.Item.{Item}
 use Rattle.node.specs.declared.Given.{Given}
-use Rattle.node.specs.Rows.{rowOf, fits}
-use Rattle.node.specs.Judged.{judged}
+use Rattle.node.specs.Rows.{unknown, rowOf, fits}
+use Rattle.node.specs.Judged.{bad, judged}
+use Rattle.node.proofs.Judged.{refused}
 
 pub cites-none : (k : ℕ) → (k ≡ 8 → ⊥) → (w : Words) → rowOf k .cites w ≡ []
 unfolding rowOf
@@ -44,3 +46,49 @@ fact-unread (suc (suc (suc (suc (suc (suc (suc (suc (suc zero))))))))) d g f = r
 fact-unread (suc (suc (suc (suc (suc (suc (suc (suc (suc (suc zero)))))))))) d g f = refl
 fact-unread (suc (suc (suc (suc (suc (suc (suc (suc (suc (suc (suc zero))))))))))) d g f = refl
 fact-unread (suc (suc (suc (suc (suc (suc (suc (suc (suc (suc (suc (suc k)))))))))))) d g f = refl
+
+-- ---- which kinds have children
+
+no-cons : (a : ℕ) (cs : List ℕ) → a ∷ cs ≡ [] → ⊥
+no-cons a cs e = let z : _≡_ {A = ℕ} 0 1 = cc in omega arith
+
+-- a node without children is of one of the kinds 0 to 3 and 8, or is bad
+pub leaf-rest : (k : ℕ) (g : Given) → (k ≡ 0 → ⊥) → (k ≡ 1 → ⊥) → (k ≡ 2 → ⊥) → (k ≡ 3 → ⊥) → (k ≡ 8 → ⊥)
+    → rowOf k .children (g .words) ≡ [] → bad ≡ judged (rowOf k) g
+unfolding rowOf
+leaf-rest zero g a b c d f e = absurd (a refl)
+leaf-rest (suc zero) g a b c d f e = absurd (b refl)
+leaf-rest (suc (suc zero)) g a b c d f e = absurd (c refl)
+leaf-rest (suc (suc (suc zero))) g a b c d f e = absurd (d refl)
+leaf-rest (suc (suc (suc (suc zero)))) g a b c d f e = absurd (no-cons _ _ e)
+leaf-rest (suc (suc (suc (suc (suc zero))))) g a b c d f e = absurd (no-cons _ _ e)
+leaf-rest (suc (suc (suc (suc (suc (suc zero)))))) g a b c d f e = absurd (no-cons _ _ e)
+leaf-rest (suc (suc (suc (suc (suc (suc (suc zero))))))) g a b c d f e = absurd (no-cons _ _ e)
+leaf-rest (suc (suc (suc (suc (suc (suc (suc (suc zero)))))))) g a b c d f e = absurd (f refl)
+leaf-rest (suc (suc (suc (suc (suc (suc (suc (suc (suc zero))))))))) g a b c d f e = absurd (no-cons _ _ e)
+leaf-rest (suc (suc (suc (suc (suc (suc (suc (suc (suc (suc zero)))))))))) g a b c d f e = absurd (no-cons _ _ e)
+leaf-rest (suc (suc (suc (suc (suc (suc (suc (suc (suc (suc (suc zero))))))))))) g a b c d f e = absurd (no-cons _ _ e)
+leaf-rest (suc (suc (suc (suc (suc (suc (suc (suc (suc (suc (suc (suc k)))))))))))) g a b c d f e = refused unknown g refl
+
+-- a node with children is of another kind
+pub parent-rest : (k : ℕ) (w : Words) → (k ≡ 4 → ⊥) → (k ≡ 5 → ⊥) → (k ≡ 6 → ⊥) → (k ≡ 7 → ⊥) → (k ≡ 9 → ⊥) → (k ≡ 10 → ⊥) → (k ≡ 11 → ⊥)
+    → (rowOf k .children w ≡ [] → ⊥) → ⊥
+unfolding rowOf
+parent-rest zero w a b c d e f i p = p refl
+parent-rest (suc zero) w a b c d e f i p = p refl
+parent-rest (suc (suc zero)) w a b c d e f i p = p refl
+parent-rest (suc (suc (suc zero))) w a b c d e f i p = p refl
+parent-rest (suc (suc (suc (suc zero)))) w a b c d e f i p = a refl
+parent-rest (suc (suc (suc (suc (suc zero))))) w a b c d e f i p = b refl
+parent-rest (suc (suc (suc (suc (suc (suc zero)))))) w a b c d e f i p = c refl
+parent-rest (suc (suc (suc (suc (suc (suc (suc zero))))))) w a b c d e f i p = d refl
+parent-rest (suc (suc (suc (suc (suc (suc (suc (suc zero)))))))) w a b c d e f i p = p refl
+parent-rest (suc (suc (suc (suc (suc (suc (suc (suc (suc zero))))))))) w a b c d e f i p = e refl
+parent-rest (suc (suc (suc (suc (suc (suc (suc (suc (suc (suc zero)))))))))) w a b c d e f i p = f refl
+parent-rest (suc (suc (suc (suc (suc (suc (suc (suc (suc (suc (suc zero))))))))))) w a b c d e f i p = i refl
+parent-rest (suc (suc (suc (suc (suc (suc (suc (suc (suc (suc (suc (suc k)))))))))))) w a b c d e f i p = p refl
+
+-- so it names no fact and cites no rule
+pub parent-other : (k : ℕ) (w : Words) → (rowOf k .children w ≡ [] → ⊥) → (k ≡ 3 → ⊥) × (k ≡ 8 → ⊥)
+unfolding rowOf
+parent-other k w p = (λ e. p (rw e), λ e. p (rw e))

@@ -33,6 +33,7 @@ use Rattle.node.specs.FactTypes.{factTypeOf}
 use Rattle.node.specs.Rows.{rowOf, fits}
 use Rattle.node.specs.Judged.{judged, SmallKids, kids}
 use Rattle.node.proofs.Few.{sort-few}
+use Rattle.node.proofs.OneKind.{parent-other}
 use Rattle.records.specs.Facts.{factSort, factItem}
 use Rattle.records.specs.Nodes.{nodeWords, nodeRow, childrenOf, namedFact, givenOf, itemOf, namedByNodes, goodChildren, goodNode}
 use Rattle.records.proofs.NodeLaws.{node-ok}
@@ -52,7 +53,7 @@ type-few (suc zero) t l = omega arith
 type-few (suc (suc zero)) t l = omega arith
 type-few (suc (suc (suc k))) t l = omega arith
 
-fact-few : (s : List ℤ) (h : Header) → Begun s h → (f : ℕ) → namedFact s (h .facts) f .sort ≤ 129
+pub fact-few : (s : List ℤ) (h : Header) → Begun s h → (f : ℕ) → namedFact s (h .facts) f .sort ≤ 129
 fact-few s h b f = go (ltb f (h .facts)) refl
   where
     go : (t : Bool) → ltb f (h .facts) ≡ t → cond t (factItem s f) none .sort ≤ 129
@@ -71,13 +72,13 @@ module _ (s : List ℤ) (h : Header) (b : Begun s h) (n : ℕ) (good : (j : ℕ)
           (o .takes))
 
 -- a verdict-present cites a rule that exists
-cited-small : (k : ℕ) (g : Given) → rowOf k .takes g ≡ true → k ≡ 8 → num (g .words .w1) < g .rules
+pub cited-small : (k : ℕ) (g : Given) → rowOf k .takes g ≡ true → k ≡ 8 → num (g .words .w1) < g .rules
 cited-small k g p e = ltb-true (num (g .words .w1)) (g .rules) (eight (rw e at p))
   where
     eight : rowOf 8 .takes g ≡ true → ltb (num (g .words .w1)) (g .rules) ≡ true
     eight q = unfold rowOf in q
 
-own-few : (k : ℕ) (g : Given) → rowOf k .takes g ≡ true → g .rules ≤ 128 → cond (eqb k 8) (suc (num (g .words .w1))) 0 ≤ 128
+pub own-few : (k : ℕ) (g : Given) → rowOf k .takes g ≡ true → g .rules ≤ 128 → cond (eqb k 8) (suc (num (g .words .w1))) 0 ≤ 128
 own-few k g p l = go (ℕ-discrete k 8)
   where
     go : Dec (k ≡ 8) → cond (eqb k 8) (suc (num (g .words .w1))) 0 ≤ 128
@@ -91,7 +92,9 @@ module _ (s : List ℤ) (h : Header) (b : Begun s h) (n : ℕ) (good : (j : ℕ)
       step : (j : ℕ) → ((i : ℕ) → i < j → i < n → topOf s h i ≤ 128) → j < n → topOf s h j ≤ 128
       step j ih l =
           let o = node-ok s h j (good j l) in
-          let own : ownTop s h j ≤ 128 = rw (sym (own-is (num (nodeWords s h j .w0)) (nodeWords s h j))) (own-few _ (givenOf s h (itemOf s h) j) (o .takes) (b .sized .limits .rules)) in
+          let own : ownTop s h j ≤ 128 =
+          rw (sym (own-is (num (nodeWords s h j .w0)) (nodeWords s h j)))
+          (own-few _ (givenOf s h (itemOf s h) j) (o .takes) (b .sized .limits .rules)) in
           rw (top-is s h j (o .before))
           (omega (arith, own, greatest-few (topOf s h) 128 j (childrenOf s h j) (λ i q. ih i q (omega arith)) (o .before)))
 
@@ -147,6 +150,11 @@ module _ (s : List ℤ) (h : Header) (n : ℕ) {lows highs : List ℤ} {sorts to
       one : (c : ℕ) → Dec (c < n) → (ltb c n && not (getD named c false)) ≡ (ltb c n && not (namedByNodes s h n c))
       one c (yes q) = rw (f .name c (omega (arith, few)))
       one c (no q) = rw (le-ltb c n (omega arith))
+
+  -- a node with children cites no rule of its own
+  pub parent-top : (k : ℕ) (w : Words) (m : ℕ) {top : ℕ} → (rowOf k .children w ≡ [] → ⊥) → top ≡ m
+      → top ≡ max (cond (eqb k 8) (suc (num (w .w1))) 0) m
+  parent-top k w m p e = rw (borrow.Author.Tests.ne-eqb k 8 (parent-other k w p .1)) (omega arith)
 
   module _ (c : Kids) {w : Words} {k : ℕ} (ew : w ≡ nodeWords s h n) (ek : k ≡ num (w .w0)) (ec : kids c ≡ rowOf k .children w) where
     children-are : kids c ≡ childrenOf s h n
@@ -213,7 +221,7 @@ module _ (s : List ℤ) (h : Header) (n : ℕ) {lows highs : List ℤ} {sorts to
           fits-is : r .good ≡ fits (nodeRow s h n) (givenOf s h (itemOf s h) n)
           fits-is = ap (λ (x : Judgement). x .good) found-is ∙ judged-good (nodeRow s h n) (givenOf s h (itemOf s h) n)
 
-          good-is : goodNode s h n ≡ r .good
+          pub good-is : goodNode s h n ≡ r .good
           unfolding goodNode
           good-is = rw (linked-are ∙ p) (sym fits-is)
 
@@ -232,13 +240,6 @@ module _ (s : List ℤ) (h : Header) (n : ℕ) {lows highs : List ℤ} {sorts to
             good-all : (j : ℕ) → j < suc n → goodNode s h j ≡ true
             good-all j l = ⊎-elim (λ m. f .good j m) (λ e. rw e good-now) (below-suc j n l)
 
-            pub rule-small : {i : ℕ} → i ≡ num (w .w1) → k ≡ 8 → i < 128
-            rule-small {i} ei e =
-                let m =
-                cited-small (num (nodeWords s h n .w0)) (givenOf s h (itemOf s h) n) (node-ok s h n good-now .takes)
-                (ap (λ (z : Words). num (z .w0)) (sym ew) ∙ sym ek ∙ e) in
-                rw (ei, ew) (omega (arith, m, t .begun .sized .limits .rules))
-
             pub storable : Storable n (r .item) lows highs sorts
             storable =
                 record {
@@ -248,12 +249,11 @@ module _ (s : List ℤ) (h : Header) (n : ℕ) {lows highs : List ℤ} {sorts to
                   few = rw item-now (item-few s h (t .begun) (suc n) good-all n (omega arith));
                 }
 
-            module _ {i own top : ℕ} (ei : i ≡ num (w .w1)) (eo : own ≡ cond (eqb k 8) (suc i) 0)
-                (et : top ≡ max own (greatest (λ j. getD tops j 0) (kids c))) where
+            module _ {top : ℕ} (et : top ≡ max (cond (eqb k 8) (suc (num (w .w1))) 0) (greatest (λ j. getD tops j 0) (kids c))) where
               top-now : top ≡ topOf s h n
               top-now =
                   et
-                  ∙ rw (eo, ei, own-is k w, greatest-same (λ j. getD tops j 0) (topOf s h) n (kids c) (f .top) before-kids, children-are, ek, ew)
+                  ∙ rw (own-is k w, greatest-same (λ j. getD tops j 0) (topOf s h) n (kids c) (f .top) before-kids, children-are, ek, ew)
                   (sym (top-is s h n before))
 
               pub top-room : (n < length tops) × (top < 256)

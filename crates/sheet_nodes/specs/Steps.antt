@@ -2,10 +2,10 @@
 -- Assumes nothing.
 use mathlib.Core.Path.{_≡_}
 use mathlib.Core.Bool.{Bool, true, cond}
-use mathlib.Core.List.{List}
+use mathlib.Core.List.{List, []}
 use Prim.Native.Nat.{ℕ, suc, _<_, _≤_}
 use lib.IntN.{ℤ}
-use lib.Dec.{ltb}
+use lib.Dec.{ltb, eqb}
 use lib.ListN.{length, set}
 use Rattle.signed.specs.Words.{num}
 use Rattle.words.specs.declared.Words.{Words}
@@ -16,9 +16,10 @@ use Rattle.item.specs.Items.{none}
 use Rattle.item.specs.Inner.{Small}
 use Rattle.node.specs.declared.Given.{Given}
 use Rattle.node.specs.declared.Kids.{Kids}
-use Rattle.node.specs.Judged.{SmallKids}
+use Rattle.node.specs.Rows.{rowOf}
+use Rattle.node.specs.Judged.{SmallKids, kids, judged}
 use Rattle.records.specs.Facts.{goodFact}
-use Rattle.records.specs.Nodes.{namedFact, goodNode}
+use Rattle.records.specs.Nodes.{nodeWords, namedFact, goodNode}
 use Rattle.sheet_nodes.specs.Arrays.{itemAt, Filled}
 
 -- what node n is worked out from, its children being in the arrays
@@ -35,6 +36,11 @@ givenBy s h w c lows highs sorts =
       x = kidItem lows highs sorts (ltb 0 (c .count)) (c .first);
       y = kidItem lows highs sorts (ltb 1 (c .count)) (c .second);
     }
+
+-- what a node without children is worked out from
+abbrev pub leafGiven : List ℤ → Header → Words → Given
+leafGiven s h w =
+    record { words = w; facts = h .facts; rules = h .rules; fact = namedFact s (h .facts) (num (w .w1)); x = none; y = none }
 
 -- there are m entries, and the children's are among them
 pub record Inside (c : Kids) (m : ℕ) : Type 0 where
@@ -76,7 +82,27 @@ pub record Turn (s : List ℤ) (h : Header) (n : ℕ) (lows highs : List ℤ) (s
   pub exists : n < h .nodes
   pub filled : Filled s h n lows highs sorts tops named
 
+-- the words, the kind and the children of node n
+pub record Placed (s : List ℤ) (h : Header) (n : ℕ) (w : Words) (k : ℕ) (c : Kids) : Type 0 where
+  pub words : w ≡ nodeWords s h n
+  pub kind : k ≡ num (w .w0)
+  pub children : kids c ≡ rowOf k .children w
+
 -- and has judged it
 pub record Took (s : List ℤ) (h : Header) (n : ℕ) (good : Bool) (lows highs : List ℤ) (sorts tops : List ℕ) (named : List Bool) : Type 0 where
   pub judged : good ≡ goodNode s h n
   pub filled : good ≡ true → Filled s h (suc n) lows highs sorts tops named
+
+-- what a node without children asks
+pub record LeafAt (s : List ℤ) (h : Header) (n : ℕ) (w : Words) (k : ℕ) (lows highs : List ℤ) (sorts tops : List ℕ) : Type 0 where
+  pub begun : Begun s h
+  pub leaf : rowOf k .children w ≡ []
+  pub long : Long 1024 lows highs sorts
+  pub tops-long : length tops ≡ 1024
+  pub room : n < 1024
+
+-- it is judged, and where it is good it is in the arrays
+pub record TookLeaf (s : List ℤ) (h : Header) (n : ℕ) (w : Words) (k : ℕ) (good : Bool) (lows highs : List ℤ) (sorts tops : List ℕ) (lows′ highs′ : List ℤ) (sorts′ tops′ : List ℕ) : Type 0 where
+  pub answer : good ≡ judged (rowOf k) (leafGiven s h w) .good
+  pub stored : good ≡ true → Stored n (judged (rowOf k) (leafGiven s h w) .item) lows highs sorts lows′ highs′ sorts′
+  pub top : good ≡ true → tops′ ≡ set tops n (cond (eqb k 8) (suc (num (w .w1))) 0)

@@ -2,6 +2,7 @@
 // node's tree cites, and which nodes have been named.
 ghost use mathlib.Core.Path.{_≡_};
 ghost use mathlib.Core.Bool.{true, false, cond};
+ghost use mathlib.Core.List.{[]};
 ghost use Prim.Native.Nat.{ℕ, suc, _<_, _≤_, max};
 ghost use lib.Dec.{ltb, eqb};
 ghost use lib.ListN.{length, getD, set};
@@ -13,7 +14,7 @@ ghost use Rattle.node.specs.Rows.{rowOf};
 ghost use Rattle.node.specs.Judged.{kids, judged};
 ghost use Rattle.records.specs.Nodes.{namedFact, goodChildren, goodNode};
 ghost use Rattle.sheet_nodes.specs.Arrays.{greatest, Empty, Filled};
-ghost use Rattle.sheet_nodes.specs.Steps.{kidItem, givenBy, Inside, Long, Begun, Judgeable, Storable, Stored, Turn, Took};
+ghost use Rattle.sheet_nodes.specs.Steps.{kidItem, givenBy, leafGiven, Inside, Long, Begun, Judgeable, Storable, Stored, Turn, Placed, Took, LeafAt, TookLeaf};
 use item::Item;
 use item::span;
 use layout::Header;
@@ -21,7 +22,8 @@ use node::Given;
 use node::Judgement;
 use node::Kids;
 use node::children;
-use node::judge;
+use node::judge_leaf;
+use node::judge_parent;
 use records::named_fact;
 use signed::num;
 use tables::flag;
@@ -64,8 +66,29 @@ fn fact_of(s: &[i64], h: Header, k: usize, f: usize) -> Item
     }
 }
 
+// Judges a node of kind number k that has no children.
+fn judge_single(s: &[i64], h: Header, w: Words, k: usize) -> Judgement
+    requires { ⌜ Begun (now s) h × (rowOf k .children w ≡ []) ⌝ }
+    ensures { λ r. ⌜ r ≡ judged (rowOf k) (leafGiven (now (s .entry)) h w) ⌝ }
+{
+    let x = span(0, 0, 0);
+    let y = span(0, 0, 0);
+    let fact = fact_of(s, h, k, num(w.w1));
+    judge_leaf(
+        k,
+        Given {
+            words: w,
+            facts: h.facts,
+            rules: h.rules,
+            fact,
+            x,
+            y,
+        },
+    )
+}
+
 // Judges a node of kind number k whose children are in the arrays.
-fn judge_node(
+fn judge_joint(
     s: &[i64],
     h: Header,
     w: Words,
@@ -75,13 +98,13 @@ fn judge_node(
     highs: &[i32],
     sorts: &[u16],
 ) -> Judgement
-    requires { ⌜ Judgeable (now s) h w c (now lows) (now highs) (now sorts) ⌝ }
+    requires { ⌜ Judgeable (now s) h w c (now lows) (now highs) (now sorts) × (rowOf k .children w ≡ [] → ⊥) ⌝ }
     ensures { λ r. ⌜ r ≡ judged (rowOf k) (givenBy (now (s .entry)) h w c (now (lows .entry)) (now (highs .entry)) (now (sorts .entry))) ⌝ }
 {
     let x = kid_item(lows, highs, sorts, 0 < c.count, c.first);
     let y = kid_item(lows, highs, sorts, 1 < c.count, c.second);
-    let fact = fact_of(s, h, k, num(w.w1));
-    judge(
+    let fact = span(0, 0, 0);
+    judge_parent(
         k,
         Given {
             words: w,
@@ -119,14 +142,14 @@ fn kid_top(tops: &[u8], on: bool, j: usize) -> usize
     if on { tops[j] as usize } else { 0 }
 }
 
-// The greatest rule of a node's tree, as `own_top` has it, from its own and its children's.
-fn top_of(tops: &[u8], c: Kids, own: usize) -> usize
+// The greatest rule of the trees of a node's children, as `own_top` has it.
+fn top_of(tops: &[u8], c: Kids) -> usize
     requires { ⌜ (length (now tops) ≡ 1024) × Inside c 1024 ⌝ }
-    ensures { λ t. ⌜ t ≡ max own (greatest (λ j. getD (now (tops .entry)) j 0) (kids c)) ⌝ }
+    ensures { λ t. ⌜ t ≡ greatest (λ j. getD (now (tops .entry)) j 0) (kids c) ⌝ }
 {
     let x = kid_top(tops, 0 < c.count, c.first);
     let y = kid_top(tops, 1 < c.count, c.second);
-    greater(own, greater(x, y))
+    greater(x, y)
 }
 
 fn keep_item(lows: &mut [i32], highs: &mut [i32], sorts: &mut [u16], n: usize, x: Item)
@@ -156,6 +179,65 @@ fn name_children(named: &mut [bool], c: Kids)
     mark(named, 1 < c.count, c.second);
 }
 
+// Judges node n, which has no children; where it is good the arrays take it.
+fn take_leaf(
+    s: &[i64],
+    h: Header,
+    n: usize,
+    w: Words,
+    k: usize,
+    lows: &mut [i32],
+    highs: &mut [i32],
+    sorts: &mut [u16],
+    tops: &mut [u8],
+) -> bool
+    requires { ⌜ LeafAt (now s) h n w k (now lows) (now highs) (now sorts) (now tops) ⌝ }
+    ensures { λ b. ⌜ TookLeaf (now (s .entry)) h n w k b (now (lows .entry)) (now (highs .entry)) (now (sorts .entry)) (now (tops .entry)) (now (lows .exit)) (now (highs .exit)) (now (sorts .exit)) (now (tops .exit)) ⌝ }
+{
+    let found = judge_single(s, h, w, k);
+    if !found.good {
+        return false;
+    }
+    let x = found.item;
+    let top = own_top(k, num(w.w1));
+    keep_item(lows, highs, sorts, n, x);
+    keep_top(tops, n, top);
+    true
+}
+
+// Judges node n, which has children; where it is good the arrays take it.
+fn take_parent(
+    s: &[i64],
+    h: Header,
+    n: usize,
+    w: Words,
+    k: usize,
+    c: Kids,
+    lows: &mut [i32],
+    highs: &mut [i32],
+    sorts: &mut [u16],
+    tops: &mut [u8],
+    named: &mut [bool],
+) -> bool
+    requires { ⌜ Turn (now s) h n (now lows) (now highs) (now sorts) (now tops) (now named) × Placed (now s) h n w k c ⌝ }
+    requires { ⌜ (c .count ≡ 0 → ⊥) ⌝ }
+    ensures { λ b. ⌜ Took (now (s .entry)) h n b (now (lows .exit)) (now (highs .exit)) (now (sorts .exit)) (now (tops .exit)) (now (named .exit)) ⌝ }
+{
+    if !linked(named, n, c) {
+        return false;
+    }
+    let found = judge_joint(s, h, w, k, c, lows, highs, sorts);
+    if !found.good {
+        return false;
+    }
+    let x = found.item;
+    let top = top_of(tops, c);
+    keep_item(lows, highs, sorts, n, x);
+    keep_top(tops, n, top);
+    name_children(named, c);
+    true
+}
+
 // Judges node n; where it is good the arrays take it.
 fn take_node(
     s: &[i64],
@@ -173,19 +255,10 @@ fn take_node(
     let w = words_at(s, h.facts + n);
     let k = num(w.w0);
     let c = children(k, w);
-    if !linked(named, n, c) {
-        return false;
+    if c.count == 0 {
+        return take_leaf(s, h, n, w, k, lows, highs, sorts, tops);
     }
-    let found = judge_node(s, h, w, k, c, lows, highs, sorts);
-    if !found.good {
-        return false;
-    }
-    let x = found.item;
-    let top = top_of(tops, c, own_top(k, num(w.w1)));
-    keep_item(lows, highs, sorts, n, x);
-    keep_top(tops, n, top);
-    name_children(named, c);
-    true
+    take_parent(s, h, n, w, k, c, lows, highs, sorts, tops, named)
 }
 
 pub fn check_nodes(

@@ -15,18 +15,14 @@ kid-top-requires-2 c κs = search needs
 greater-requires : tie.Need-greater-requires
 greater-requires c κs = search needs
 
-greater-requires-2 : tie.Need-greater-requires-2
-greater-requires-2 c κs = search needs
-
 returns : tie.Need-returns
 returns c =
-    let at-kid-top2 = c .before .before in
+    let at-kid-top2 = c .before in
     let at-kid-top = at-kid-top2 .before .before in
     let at-start = at-kid-top .before .before .before in
     rw (
       greatest-kids (λ j. getD (at-start .args .tops .now) j 0) (at-start .args .c),
-      c .greater2 .ensures,
-      c .before .greater .ensures,
+      c .greater .ensures,
       at-kid-top2 .kid-top2 .ensures,
       at-kid-top .kid-top .ensures,
     )
@@ -34,4 +30,4 @@ returns c =
 pub top-of-spec : {M : Type 1} → statement M
 top-of-spec =
     tie.close
-    (tie.spec kid-top-requires kid-top-requires-2 greater-requires greater-requires-2 returns)
+    (tie.spec kid-top-requires kid-top-requires-2 greater-requires returns)
