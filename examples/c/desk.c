@@ -20,6 +20,7 @@ enum { LISTED = 10 }; /* paths of each flow */
 static uint8_t text[FERNPOCKET_MOST_TEXT + 1]; /* one byte more, to see that a text is too long */
 static int64_t sheet[FERNPOCKET_MOST_WORDS];
 static int64_t values[FERNPOCKET_MOST_FACTS], given[FERNPOCKET_MOST_FACTS], states[FERNPOCKET_MOST_ENTITIES];
+static int64_t wanted[FERNPOCKET_MOST_STEPS];
 static uint16_t path[FERNPOCKET_MOST_STEPS];
 
 static const char *const wrong[] = {
@@ -27,24 +28,25 @@ static const char *const wrong[] = {
     [FERNPOCKET_REFUSED_GROUP] = "the counts of a group's owners do not add up to the table's count",
     [FERNPOCKET_REFUSED_RECORD] = "this record is bad (in the text: line place + 3, counted from 1)",
     [FERNPOCKET_REFUSED_LENGTH] = "a slice has the wrong length",
-    [FERNPOCKET_REFUSED_MISSING] = "there is no such persona, operation, flow, entity, state, rule or node",
+    [FERNPOCKET_REFUSED_MISSING] = "there is no such persona, operation, outcome, flow, entity, state, rule or node",
     [FERNPOCKET_REFUSED_FACT_VALUE] = "this fact is given wrongly: its flag is not 0 or 1, or its value is outside min..max",
     [FERNPOCKET_REFUSED_FACT_ABSENT] = "this fact is not given and has no default",
     [FERNPOCKET_REFUSED_STATE] = "the state of this entity is not one of its states",
     [FERNPOCKET_REFUSED_PERSONA] = "the persona may not perform the operation",
     [FERNPOCKET_REFUSED_PRECONDITION] = "the operation's precondition is false",
-    [FERNPOCKET_REFUSED_NO_OUTCOME] = "no outcome of the operation applies to the present states",
+    [FERNPOCKET_REFUSED_NO_OUTCOME] = "no outcome, or not the wanted one, applies to the present states",
     [FERNPOCKET_REFUSED_NOT_PATH] = "the buffer does not begin with a path of the flow",
     [FERNPOCKET_REFUSED_LAST_PATH] = "no path follows the one in the buffer",
     [FERNPOCKET_REFUSED_LINE] = "this line is bad (line place + 1, counted from 1)",
     [FERNPOCKET_REFUSED_NO_ROOM] = "the output is shorter than the result",
+    [FERNPOCKET_REFUSED_MANY_OUTCOMES] = "several outcomes apply to the present states, and none is wanted",
 };
 
 /* Hands an answer on. A refusal ends the program, so that no later line works with what was not answered. */
 static fernpocket_answer unrefused(const char *call, fernpocket_answer answer)
 {
     if (answer.refusal != 0) {
-        int known = answer.refusal >= FERNPOCKET_REFUSED_HEADER && answer.refusal <= FERNPOCKET_REFUSED_NO_ROOM;
+        int known = answer.refusal >= FERNPOCKET_REFUSED_HEADER && answer.refusal <= FERNPOCKET_REFUSED_MANY_OUTCOMES;
         fprintf(stderr, "desk: %s: refused %" PRId64 " at %" PRId64 ": %s\n", call, answer.refusal, answer.place,
                 known ? wrong[answer.refusal] : "this program is older than the library");
         exit(1);
@@ -55,10 +57,11 @@ static fernpocket_answer unrefused(const char *call, fernpocket_answer answer)
 static void usage(void)
 {
     fputs("usage: desk < SHEET                     check the sheet, list the first paths of each flow\n"
-          "       desk operate PERSONA OPERATION [FACT=VALUE...] < SHEET\n"
-          "       desk run FLOW [FACT=VALUE...] < SHEET\n"
+          "       desk operate PERSONA OPERATION [OUTCOME] [FACT=VALUE...] < SHEET\n"
+          "       desk run FLOW [STEP:OUTCOME...] [FACT=VALUE...] < SHEET\n"
           "SHEET is a file, every other word in capitals a number. A sheet has no names: its personas, operations,\n"
-          "flows and facts are numbered from 0.\n",
+          "outcomes, flows and facts are numbered from 0, the steps of a flow from its first. OUTCOME is the wanted one;\n"
+          "without it the only outcome that applies is taken.\n",
           stderr);
     exit(2);
 }
@@ -79,10 +82,25 @@ static int64_t number(const char *what, const char *word, const char *end, int64
     return value;
 }
 
-/* A persona, an operation or a flow; the library says whether there is such a one. */
+/* A persona, an operation, an outcome or a flow; the library says whether there is such a one. */
 static int64_t named(const char *what, const char *word)
 {
     return number(what, word, word + strlen(word), 0, FERNPOCKET_LARGEST_NUMBER);
+}
+
+/* Takes the words STEP:OUTCOME, and hands on the first word that is no such one. */
+static char **want(char **words, size_t steps)
+{
+    const char *colon;
+    for (; *words != NULL && (colon = strchr(*words, ':')) != NULL; words++) {
+        size_t step = (size_t)number("STEP", *words, colon, 0, FERNPOCKET_LARGEST_NUMBER);
+        if (step >= steps || wanted[step] != -1) {
+            fprintf(stderr, "desk: step %zu %s\n", step, step >= steps ? "is not in the flow" : "is named twice");
+            exit(2);
+        }
+        wanted[step] = named("OUTCOME", colon + 1);
+    }
+    return words;
 }
 
 /* Takes the words FACT=VALUE. */
@@ -103,6 +121,17 @@ static void give(char **words, size_t facts)
                               FERNPOCKET_LARGEST_NUMBER);
         given[fact] = 1;
     }
+}
+
+/* How many steps a flow of the accepted sheet has; 0 where there is no such flow. The flows stand after seven tables. */
+static size_t steps_of(int64_t flow)
+{
+    int64_t record = flow;
+    for (int count = FERNPOCKET_AT_FACTS; count < FERNPOCKET_AT_FLOWS; count++)
+        record += sheet[count];
+    if (flow >= sheet[FERNPOCKET_AT_FLOWS])
+        return 0;
+    return (size_t)sheet[FERNPOCKET_HEADER_WORDS + FERNPOCKET_RECORD_WORDS * record + 1];
 }
 
 static void print_path(int64_t flow, fernpocket_answer answer)
@@ -156,16 +185,21 @@ int main(int argc, char **argv)
 
     if (operate) {
         int64_t persona = named("PERSONA", argv[2]), operation = named("OPERATION", argv[3]);
-        give(argv + 4, facts);
+        int outcome = argc >= 5 && strchr(argv[4], '=') == NULL;
+        int64_t wanted_outcome = outcome ? named("OUTCOME", argv[4]) : -1;
+        give(argv + 4 + outcome, facts);
         fernpocket_answer answer = fernpocket_operate(sheet, sheet_len, values, facts, given, facts, states, entities,
-                                                      persona, operation);
+                                                      persona, operation, wanted_outcome);
         printf("outcome %" PRId64 "\n", unrefused("operate", answer).value);
         print_states(entities);
     } else if (run) {
         int64_t flow = named("FLOW", argv[2]);
-        give(argv + 3, facts);
+        size_t steps = steps_of(flow);
+        for (size_t i = 0; i < steps; i++)
+            wanted[i] = -1;
+        give(want(argv + 3, steps), facts);
         fernpocket_answer answer = fernpocket_run(sheet, sheet_len, values, facts, given, facts, states, entities, flow,
-                                                  path, FERNPOCKET_MOST_STEPS);
+                                                  wanted, steps, path, FERNPOCKET_MOST_STEPS);
         print_path(flow, unrefused("run", answer));
         print_states(entities);
     } else {

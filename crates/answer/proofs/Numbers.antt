@@ -8,7 +8,7 @@ use native.Mathlib.Omega.{arith}
 use lib.IntN.{pos, natAbs}
 use lib.ListN.{getD}
 use Rattle.answer.specs.declared.Refusal.{Refusal}
-use Rattle.answer.specs.declared.Refusal.the-variants.{Header, Group, Record, Length, Missing, FactValue, FactAbsent, State, Persona, Precondition, NoOutcome, NotPath, LastPath, Line, NoRoom}
+use Rattle.answer.specs.declared.Refusal.the-variants.{Header, Group, Record, Length, Missing, FactValue, FactAbsent, State, Persona, Precondition, NoOutcome, NotPath, LastPath, Line, NoRoom, ManyOutcomes}
 use Rattle.answer.specs.declared.Status.{Status}
 use Rattle.answer.specs.declared.Status.the-variants.{Done, Refused}
 use Rattle.answer.specs.declared.Count.{Count}
@@ -24,10 +24,10 @@ use Rattle.answer.specs.Answers.{statusAnswer, countAnswer, walkAnswer}
 refusalOf : ℕ → ℕ → Refusal
 refusalOf n k =
     getD
-    (NoRoom
+    (ManyOutcomes
     ∷ Header ∷ Group ∷ Record k ∷ Length ∷ Missing ∷ FactValue k ∷ FactAbsent k ∷ State k
-    ∷ Persona ∷ Precondition ∷ NoOutcome ∷ NotPath ∷ LastPath ∷ Line k ∷ [])
-    n NoRoom
+    ∷ Persona ∷ Precondition ∷ NoOutcome ∷ NotPath ∷ LastPath ∷ Line k ∷ NoRoom ∷ [])
+    n ManyOutcomes
 
 of-own : (r : Refusal) → refusalOf (number r) (place r) ≡ r
 unfolding refusalOf
@@ -46,14 +46,15 @@ of-own NotPath = refl
 of-own LastPath = refl
 of-own (Line k) = refl
 of-own NoRoom = refl
+of-own ManyOutcomes = refl
 
 -- two refusals with the same number and place are the same refusal
 pub one-refusal : (r q : Refusal) → number r ≡ number q → place r ≡ place q → r ≡ q
 one-refusal r q e f =
     sym (of-own r) ∙ ap (λ (n : ℕ). refusalOf n (place r)) e ∙ ap (refusalOf (number q)) f ∙ of-own q
 
--- a refusal's number is 1 to 15
-pub number-range : (r : Refusal) → (1 ≤ number r) × (number r ≤ 15)
+-- a refusal's number is 1 to 16
+pub number-range : (r : Refusal) → (1 ≤ number r) × (number r ≤ 16)
 number-range Header = (omega arith, omega arith)
 number-range Group = (omega arith, omega arith)
 number-range (Record k) = (omega arith, omega arith)
@@ -69,6 +70,7 @@ number-range NotPath = (omega arith, omega arith)
 number-range LastPath = (omega arith, omega arith)
 number-range (Line k) = (omega arith, omega arith)
 number-range NoRoom = (omega arith, omega arith)
+number-range ManyOutcomes = (omega arith, omega arith)
 
 -- so none is 0
 pub number-some : (r : Refusal) → refusedAnswer r .refusal ≡ pos 0 → ⊥
@@ -87,3 +89,15 @@ count-done (NoCount r) n e f = absurd (number-some r e)
 pub walk-done : (a : Walk) → walkAnswer a .refusal ≡ pos 0 → (t : ℕ) × (n : ℕ) × (a ≡ Walked t n)
 walk-done (Walked t n) e = (t, n, refl)
 walk-done (NoWalk r) e = absurd (number-some r e)
+
+-- ---- refusals by their numbers
+
+pub count-eleven : (a : Count) → countAnswer a .refusal ≡ pos 11 → a ≡ NoCount NoOutcome
+unfolding refusalOf
+count-eleven (Is n) e = absurd (omega (arith, ap natAbs e))
+count-eleven (NoCount r) e = ap NoCount (sym (of-own r) ∙ ap (λ (n : ℕ). refusalOf n (place r)) (ap natAbs e))
+
+pub count-sixteen : (a : Count) → countAnswer a .refusal ≡ pos 16 → a ≡ NoCount ManyOutcomes
+unfolding refusalOf
+count-sixteen (Is n) e = absurd (omega (arith, ap natAbs e))
+count-sixteen (NoCount r) e = ap NoCount (sym (of-own r) ∙ ap (λ (n : ℕ). refusalOf n (place r)) (ap natAbs e))

@@ -10,11 +10,15 @@ use Rattle.answer.specs.declared.Walk.the-variants.{Path as Walked, Refu
 use Rattle.answer.specs.Number.{place, number}
 use lib.Dec.{lit<}
 use Rattle.answer.specs.declared.Refusal.{Refusal}
-use Rattle.answer.specs.declared.Refusal.the-variants.{Header, Group, Record, Length, Missing, FactValue, FactAbsent, State, Persona, Precondition, NoOutcome, NotPath, LastPath, Line, NoRoom}
+use Rattle.answer.specs.declared.Refusal.the-variants.{Header, Group, Record, Length, Missing, FactValue, FactAbsent, State, Persona, Precondition, NoOutcome, NotPath, LastPath, Line, NoRoom, ManyOutcomes}
+
+-- what holds of the refusal, where there is one
+abbrev pub Every : (Refusal → Type 0) → Status → Type 0
+Every P Done = Unit {0}
+Every P (Refused r) = P r
 
 abbrev pub SmallStatus : Status → Type 0
-SmallStatus Done = Unit {0}
-SmallStatus (Refused r) = place r < 2 ^ 63
+SmallStatus t = Every (λ r. place r < 2 ^ 63) t
 
 abbrev pub SmallCount : Count → Type 0
 SmallCount (Is n) = n < 2 ^ 63
@@ -41,3 +45,4 @@ number-small NotPath = lit< tt
 number-small LastPath = lit< tt
 number-small (Line k) = lit< tt
 number-small NoRoom = lit< tt
+number-small ManyOutcomes = lit< tt

@@ -1,9 +1,9 @@
--- 01, "Refusal numbers": the number and the place of each refusal, and the four numbers of an answer.
+-- 01, "Refusal numbers", and 02: the number and the place of each refusal, and the four numbers of an answer.
 -- Assumes nothing.
 use Prim.Native.Nat.{ℕ}
 use lib.IntN.{pos}
 use Rattle.answer.specs.declared.Refusal.{Refusal}
-use Rattle.answer.specs.declared.Refusal.the-variants.{Header, Group, Record, Length, Missing, FactValue, FactAbsent, State, Persona, Precondition, NoOutcome, NotPath, LastPath, Line, NoRoom}
+use Rattle.answer.specs.declared.Refusal.the-variants.{Header, Group, Record, Length, Missing, FactValue, FactAbsent, State, Persona, Precondition, NoOutcome, NotPath, LastPath, Line, NoRoom, ManyOutcomes}
 use Rattle.answer.specs.declared.Answer.{Answer}
 
 -- the number of a refusal
@@ -23,6 +23,7 @@ number NotPath = 12
 number LastPath = 13
 number (Line k) = 14
 number NoRoom = 15
+number ManyOutcomes = 16
 
 -- the place of a refusal: 0 unless stated
 abbrev pub place : Refusal → ℕ
@@ -41,6 +42,7 @@ place NotPath = 0
 place LastPath = 0
 place (Line k) = k
 place NoRoom = 0
+place ManyOutcomes = 0
 
 -- a refused answer: its number and its place, the other numbers 0
 abbrev pub refusedAnswer : Refusal → Answer

@@ -1,4 +1,4 @@
-// The refusals of document 01, each with its number and place, and the four numbers that a C caller is answered.
+// The refusals of documents 01 and 02, each with its number and place, and the four numbers that a C caller is answered.
 ghost use mathlib.Core.Path.{_≡_};
 ghost use lib.IntN.{pos};
 ghost use Prim.Native.Nat.{_<_, _^_};
@@ -23,6 +23,7 @@ pub enum Refusal {
     LastPath,
     Line(usize),
     NoRoom,
+    ManyOutcomes,
 }
 
 // The answer of a call that has no number to give.
@@ -71,6 +72,7 @@ pub fn number(r: Refusal) -> usize
         Refusal::LastPath => 13,
         Refusal::Line(_) => 14,
         Refusal::NoRoom => 15,
+        Refusal::ManyOutcomes => 16,
     }
 }
 
@@ -93,6 +95,7 @@ pub fn place(r: Refusal) -> usize
         Refusal::NotPath => 0,
         Refusal::LastPath => 0,
         Refusal::NoRoom => 0,
+        Refusal::ManyOutcomes => 0,
     }
 }
 

@@ -1,4 +1,4 @@
-// One operation by a persona, over fixed facts and verdicts: refusals 9, 10 and 11, or its outcome and the states afterwards.
+// One operation by a persona, over fixed facts and verdicts: refusals 9, 10, 11 and 16, or its outcome and the states afterwards.
 ghost use mathlib.Core.Path.{_≡_};
 ghost use mathlib.Core.Bool.{_&&_};
 ghost use Rattle.records.specs.Accepted.{Accepted};
@@ -6,8 +6,8 @@ ghost use Rattle.operation.specs.Mask.{allowed};
 ghost use Rattle.predicate.specs.Values.{truth};
 ghost use Rattle.predicate.specs.Inner.{Evaluable};
 ghost use Rattle.operation.specs.Ready.{Ready};
-ghost use Rattle.attempt.specs.Attempts.{precondition, attempted, attemptedIf, attemptedStates};
-ghost use Rattle.attempt.specs.Inner.{Attemptable, attemptedStatesIf};
+ghost use Rattle.attempt.specs.Attempts.{precondition, attempted, attemptedStates};
+ghost use Rattle.attempt.specs.Inner.{Attemptable, attemptedIf, attemptedStatesIf};
 ghost use Prim.Native.Nat.{_<_};
 use answer::Count;
 use answer::Refusal;
@@ -17,6 +17,7 @@ use layout::Operation;
 use layout::Persona;
 use layout::place;
 use operation::Choice;
+use operation::Wanted;
 use operation::allows;
 use operation::perform;
 use predicate::is_true;
@@ -67,11 +68,12 @@ pub fn attempt_known(
     states: &mut [i64],
     p: Persona,
     o: Operation,
+    wanted: Wanted,
 ) -> Count
     requires { ⌜ Ready (now s) h (now states) (o .0) ⌝ }
     requires { ⌜ p .0 < h .personas ⌝ }
-    ensures { λ r. ⌜ r ≡ attemptedIf (now (s .entry)) h holds (now (states .entry)) (p .0) (o .0) ⌝ }
-    ensures { λ r. ⌜ now (states .exit) ≡ attemptedStatesIf (now (s .entry)) h holds (now (states .entry)) (p .0) (o .0) ⌝ }
+    ensures { λ r. ⌜ r ≡ attemptedIf (now (s .entry)) h holds (now (states .entry)) (p .0) (o .0) wanted ⌝ }
+    ensures { λ r. ⌜ now (states .exit) ≡ attemptedStatesIf (now (s .entry)) h holds (now (states .entry)) (p .0) (o .0) wanted ⌝ }
 {
     if !allows(s, h, o, p) {
         return Count::Refused(Refusal::Persona);
@@ -79,9 +81,10 @@ pub fn attempt_known(
     if !holds {
         return Count::Refused(Refusal::Precondition);
     }
-    match perform(s, h, states, o) {
+    match perform(s, h, states, o, wanted) {
         Choice::Outcome(j) => Count::Is(j),
         Choice::Nothing => Count::Refused(Refusal::NoOutcome),
+        Choice::Several => Count::Refused(Refusal::ManyOutcomes),
     }
 }
 
@@ -94,11 +97,12 @@ pub fn attempt(
     states: &mut [i64],
     p: Persona,
     o: Operation,
+    wanted: Wanted,
 ) -> Count
     requires { ⌜ Attemptable (now s) h (now facts) (now verdicts) (now states) (p .0) (o .0) ⌝ }
-    ensures { λ r. ⌜ r ≡ attempted (now (s .entry)) h (now (facts .entry)) (now (verdicts .entry)) (now (states .entry)) (p .0) (o .0) ⌝ }
-    ensures { λ r. ⌜ now (states .exit) ≡ attemptedStates (now (s .entry)) h (now (facts .entry)) (now (verdicts .entry)) (now (states .entry)) (p .0) (o .0) ⌝ }
+    ensures { λ r. ⌜ r ≡ attempted (now (s .entry)) h (now (facts .entry)) (now (verdicts .entry)) (now (states .entry)) (p .0) (o .0) wanted ⌝ }
+    ensures { λ r. ⌜ now (states .exit) ≡ attemptedStates (now (s .entry)) h (now (facts .entry)) (now (verdicts .entry)) (now (states .entry)) (p .0) (o .0) wanted ⌝ }
 {
     let holds = admits(s, h, facts, verdicts, p, o);
-    attempt_known(s, h, holds, states, p, o)
+    attempt_known(s, h, holds, states, p, o, wanted)
 }

@@ -44,11 +44,12 @@ fn operate_on(
     states: &mut [i64],
     persona: i64,
     operation: i64,
+    wanted: i64,
     case: usize,
 ) {
     lines::count(
         case,
-        evaluate::operate(s, values, given, states, persona, operation),
+        evaluate::operate(s, values, given, states, persona, operation, wanted),
     );
     lines::buffer(values);
     lines::buffer(given);
@@ -62,6 +63,7 @@ pub(crate) fn operate(
     first: usize,
     persona: i64,
     operation: i64,
+    wanted: i64,
     case: usize,
 ) {
     let mut values = [0i64; 160];
@@ -78,6 +80,7 @@ pub(crate) fn operate(
         &mut states[..k],
         persona,
         operation,
+        wanted,
         case,
     );
 }

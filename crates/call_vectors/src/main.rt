@@ -1,4 +1,5 @@
-// Runs the calls of the script in the file stdin, and writes a line for each: the call's number, the answer, and every lent buffer.
+// Runs the calls of the script in the file stdin, and writes a line for each: the call's number, the answer, and every lent buffer but the wanted
+// words of a run, which are only read.
 // A call: the number of what is called, its numbers, its buffers. 0, with the sheet as a buffer, sets the sheet of the calls after it.
 mod calls;
 mod figures;
@@ -14,7 +15,7 @@ use tables::word_entry;
 // How many numbers a call has.
 fn numbers(call: usize) -> usize {
     match call {
-        3 => 2,
+        3 => 3,
         8 => 2,
         11 => 4,
         12 => 4,
@@ -30,7 +31,7 @@ fn lent(call: usize) -> usize {
         1 => 2,
         2 => 3,
         3 => 3,
-        6 => 4,
+        6 => 5,
         0..=8 => 1,
         _ => 0,
     }
@@ -58,6 +59,7 @@ fn on_sheet(s: &[i64], tape: &[i64], call: usize, at: usize, first: usize, case:
             first,
             number(tape, at, 1),
             number(tape, at, 2),
+            number(tape, at, 3),
             case,
         ),
         _ => on_flow(s, tape, call, at, first, case),

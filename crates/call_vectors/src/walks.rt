@@ -123,10 +123,14 @@ fn run_on(
     given: &[i64],
     states: &mut [i64],
     flow: i64,
+    wanted: &[i64],
     path: &mut [u16],
     case: usize,
 ) {
-    lines::walk(case, flows::run(s, values, given, states, flow, path));
+    lines::walk(
+        case,
+        flows::run(s, values, given, states, flow, wanted, path),
+    );
     lines::buffer(values);
     lines::buffer(given);
     lines::buffer(states);
@@ -134,7 +138,7 @@ fn run_on(
     lines::end();
 }
 
-// A run with the facts lent, on buffers from the tape for states and path.
+// A run with the facts lent, on buffers from the tape for states, wanted words and path.
 fn run_with(
     s: &[i64],
     values: &[i64],
@@ -145,15 +149,19 @@ fn run_with(
     case: usize,
 ) {
     let mut states = [0i64; 160];
+    let mut wanted = [0i64; 300];
     let mut path = [0u16; 512];
+    let fourth = past(tape, third);
     let n = lend(tape, third, &mut states);
-    let m = lend_path(tape, past(tape, third), &mut path);
+    let k = lend(tape, fourth, &mut wanted);
+    let m = lend_path(tape, past(tape, fourth), &mut path);
     run_on(
         s,
         values,
         given,
         &mut states[..n],
         flow,
+        &wanted[..k],
         &mut path[..m],
         case,
     );

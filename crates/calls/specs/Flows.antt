@@ -1,4 +1,4 @@
--- 01, "Flow" under "Evaluation", and S6: what the calls first, next and run answer, and what they leave in each lent buffer. Each climbs the
+-- 01, "Flow" under "Evaluation", and S6, and 02, CR 1: what the calls first, next and run answer, and what they leave in each lent buffer. Each climbs the
 -- ladder first.
 -- Assumes nothing.
 use mathlib.Core.Bool.{Bool, true, false, _&&_}
@@ -19,46 +19,55 @@ use Rattle.predicate.specs.Verdicts.{verdictsOf}
 use Rattle.operation.specs.States.{statesFault}
 use Rattle.walks.specs.Paths.{stepsOf}
 use Rattle.listing.specs.Calls.{firstWalk, firstLaid, nextWalk, nextLaid}
-use Rattle.run.specs.Runs.{ranWalk, ranPath, ranStates}
+use Rattle.run.specs.Runs.{goodWords, ranWalk, ranPath, ranStates}
 use Rattle.ladder.specs.declared.Climbed.{Climbed}
 use Rattle.ladder.specs.Ladder.{rungs, opened, climb, by, left, exists, matches, factsLent}
 
--- "a path buffer is at least as long as the flow has steps. Where the flow does not exist, slices sized by its steps are not judged"
-unfoldable pub pathLent : List ℤ → Header → ℤ → ℕ → Bool
-pathLent s h f room = elim (exists f (h .flows)) [ true ↦ leb (stepsOf s h (num f)) room | false ↦ true ]
+-- "Where the flow does not exist, slices sized by its steps are not judged": the flow's steps, or n, which then is right
+unfoldable pub stepsOr : List ℤ → Header → ℤ → ℕ → ℕ
+stepsOr s h f n = elim (exists f (h .flows)) [ true ↦ stepsOf s h (num f) | false ↦ n ]
+
+-- "a path buffer is at least as long as the flow has steps"
+abbrev pub pathLent : List ℤ → Header → ℤ → ℕ → Bool
+pathLent s h f room = leb (stepsOr s h f room) room
+
+-- 02, CR 1: "one wanted word per step of the flow (other length: 4"
+abbrev pub wantedLent : List ℤ → Header → ℤ → List ℤ → Bool
+wantedLent s h f words = matches words (stepsOr s h f (length words))
 
 -- ---- run: 1 to 8
 
-unfoldable pub runRungs : List ℤ → List ℤ → List ℤ → List ℤ → ℤ → ℕ → Header → Status
-runRungs s values given states f room h =
-    rungs (factsLent h values given && matches states (h .entities) && pathLent s h f room) (exists f (h .flows))
+unfoldable pub runRungs : List ℤ → List ℤ → List ℤ → List ℤ → ℤ → List ℤ → ℕ → Header → Status
+runRungs s values given states f words room h =
+    rungs (factsLent h values given && matches states (h .entities) && wantedLent s h f words && pathLent s h f room)
+    (exists f (h .flows) && goodWords s h (num f) words)
     (factsFault s h values given)
     (statesFault s h states)
 
-abbrev pub runClimb : List ℤ → List ℤ → List ℤ → List ℤ → ℤ → ℕ → Climbed
-runClimb s values given states f room = climb (opened s) (runRungs s values given states f room)
+abbrev pub runClimb : List ℤ → List ℤ → List ℤ → List ℤ → ℤ → List ℤ → ℕ → Climbed
+runClimb s values given states f words room = climb (opened s) (runRungs s values given states f words room)
 
 -- "facts and verdicts are fixed at its start": a run over what the lent facts come to
-abbrev pub ranWalkOver : List ℤ → Header → List ℤ → List ℤ → List ℤ → ℕ → Walk
-ranWalkOver s h values given states f = let facts = assembled s h values given in ranWalk s h facts (verdictsOf s h facts) states f
+abbrev pub ranWalkOver : List ℤ → Header → List ℤ → List ℤ → List ℤ → ℕ → List ℤ → Walk
+ranWalkOver s h values given states f words = let facts = assembled s h values given in ranWalk s h facts (verdictsOf s h facts) states f words
 
-abbrev pub ranPathOver : List ℤ → Header → List ℤ → List ℤ → List ℤ → ℕ → List ℕ → List ℕ
-ranPathOver s h values given states f b = let facts = assembled s h values given in ranPath s h facts (verdictsOf s h facts) states f b
+abbrev pub ranPathOver : List ℤ → Header → List ℤ → List ℤ → List ℤ → ℕ → List ℤ → List ℕ → List ℕ
+ranPathOver s h values given states f words b = let facts = assembled s h values given in ranPath s h facts (verdictsOf s h facts) states f words b
 
-abbrev pub ranStatesOver : List ℤ → Header → List ℤ → List ℤ → List ℤ → ℕ → List ℤ
-ranStatesOver s h values given states f = let facts = assembled s h values given in ranStates s h facts (verdictsOf s h facts) states f
+abbrev pub ranStatesOver : List ℤ → Header → List ℤ → List ℤ → List ℤ → ℕ → List ℤ → List ℤ
+ranStatesOver s h values given states f words = let facts = assembled s h values given in ranStates s h facts (verdictsOf s h facts) states f words
 
-abbrev pub runAnswer : List ℤ → List ℤ → List ℤ → List ℤ → ℤ → List ℕ → Walk
-runAnswer s values given states f b =
-    by (runClimb s values given states f (length b)) NoWalk (λ h. ranWalkOver s h values given states (num f))
+abbrev pub runAnswer : List ℤ → List ℤ → List ℤ → List ℤ → ℤ → List ℤ → List ℕ → Walk
+runAnswer s values given states f words b =
+    by (runClimb s values given states f words (length b)) NoWalk (λ h. ranWalkOver s h values given states (num f) words)
 
-abbrev pub runPath : List ℤ → List ℤ → List ℤ → List ℤ → ℤ → List ℕ → List ℕ
-runPath s values given states f b =
-    left (runClimb s values given states f (length b)) b (λ h. ranPathOver s h values given states (num f) b)
+abbrev pub runPath : List ℤ → List ℤ → List ℤ → List ℤ → ℤ → List ℤ → List ℕ → List ℕ
+runPath s values given states f words b =
+    left (runClimb s values given states f words (length b)) b (λ h. ranPathOver s h values given states (num f) words b)
 
-abbrev pub runStates : List ℤ → List ℤ → List ℤ → List ℤ → ℤ → List ℕ → List ℤ
-runStates s values given states f b =
-    left (runClimb s values given states f (length b)) states (λ h. ranStatesOver s h values given states (num f))
+abbrev pub runStates : List ℤ → List ℤ → List ℤ → List ℤ → ℤ → List ℤ → List ℕ → List ℤ
+runStates s values given states f words b =
+    left (runClimb s values given states f words (length b)) states (λ h. ranStatesOver s h values given states (num f) words)
 
 -- ---- S6: first and next: 1 to 5
 

@@ -27,18 +27,18 @@ use Rattle.predicate.specs.Values.{valueStep, valueOf}
 use Rattle.predicate.specs.Verdicts.{verdictsTo, verdictsOf}
 use Rattle.operation.specs.Changes.{mover, newState, applied}
 use Rattle.operation.specs.Mask.{allowed}
-use Rattle.operation.specs.Outcomes.{ofOutcome, starts, moves, matched, unblocked, applicable, firstApplicable, chosen}
+use Rattle.operation.specs.Outcomes.{ofOutcome, starts, moves, matched, unblocked, applicable, wantedOf, goodWanted, another, only, choice, chosen}
 use Rattle.operation.specs.States.{stateIn, firstStray, statesFault}
-use Rattle.attempt.specs.Attempts.{attemptedIf, attempted, statesAfter, attemptedStates}
+use Rattle.attempt.specs.Attempts.{attemptAnswer, attempted, statesAfter, attemptedStates}
 use Rattle.walks.specs.Follows.{begins, headOf, following, laid}
 use Rattle.listing.specs.Calls.{firstWalk, firstLaid, answerOf, bufferOf, nextWalk, nextLaid}
 use Rattle.depth.specs.Depth.{greatest, depth}
 use Rattle.walks.specs.Paths.{firstRouteOf, routesOf, ends, target, lastOf, terminal, onward, inTurn, pathsFrom, paths, path}
 use Rattle.walks.specs.Walkers.{started, taken as taken-listing}
-use Rattle.run.specs.Runs.{answerRoute, branchRoute, routeTaken, statesThen, begun, stepped, runOn, ran, ranWalk, ranPath, ranStates}
+use Rattle.run.specs.Runs.{wantedAt, outcomesAt, goodWord, goodWords, answerRoute, branchRoute, routeTaken, statesThen, begun, stepped, runOn, ran, ranWalk, ranPath, ranStates}
 use Rattle.ladder.specs.Ladder.{then, unless, reached, opened, by, climb}
-use Rattle.calls.specs.Evaluation.{assembleRungs}
-use Rattle.calls.specs.Flows.{pathLent, runRungs, flowRungs}
+use Rattle.calls.specs.Evaluation.{assembleRungs, wantedExists, operateRungs}
+use Rattle.calls.specs.Flows.{stepsOr, runRungs, flowRungs}
 use Rattle.calls.specs.Lists.{publicCall, publicCalls}
 use Rattle.reach.specs.Inner.{settled, nextOpen}
 use Rattle.reach.specs.Moves.{leaves}
@@ -50,8 +50,8 @@ use Rattle.text.specs.Calls.{before, judged as judged-text}
 use Rattle.text.specs.Lines.{all, join, line, goodRow, rows, rowsOf, textOf, joined, cut, linesOf, numbers, wordsOf, same as same-text, goodLine}
 use Rattle.path_lines.specs.Output.{refusedLine, pathLine, flowLines, flowsLines, sheetLines, textCount, wordsEntrance, entrance, written, output}
 use Rattle.cases.specs.Sheets.{whole, sixRoutes, thirdOutcome, sumWith}
-use Rattle.cases.specs.CaseTable.{row, same, wrong, listed, ranFrom, judged, assembledWith, cases, wrote}
+use Rattle.cases.specs.CaseTable.{row, same, wrong, listed, ranFrom, operatedFrom, wantedCases, judged, assembledWith, cases, wrote}
 
 pub none-wrong : wrong cases ≡ []
-unfolding holds canHold canFail eqZ within bounded num minZ maxZ recordAt wordsAt numbersOf unused allBelow anyBelow sumBelow firstFail grown entry goodGroup goodGroups headerOf inLimits goodFrame goodHeader has allOf distinct joined-lists pick small factTypeOf rowOf fits tablesOf goodIn firstBad checked goodEntity goodChange goodTransition sameChange declared goodDefault agree goodFact goodFlow goodOperationStep goodBranchStep goodStep flowOf stepOf goodRouteOf goodRoute namedByRules namedByOperations namedBySteps goodRoot itemStep itemOf treeStep treeOf namedByNodes goodChildren goodNode goodMask goodOperation operationOf goodOutcome sameSource goodEffectOf goodEffect citesLower goodRule valueTaken assembled factFault firstRefused factsFault valueStep valueOf verdictsTo verdictsOf mover newState applied allowed ofOutcome starts moves matched unblocked applicable firstApplicable chosen stateIn firstStray statesFault attemptedIf attempted statesAfter attemptedStates begins headOf following laid firstWalk firstLaid answerOf bufferOf nextWalk nextLaid greatest depth firstRouteOf routesOf ends target lastOf terminal onward inTurn pathsFrom paths path started taken-listing answerRoute branchRoute routeTaken statesThen begun stepped runOn ran ranWalk ranPath ranStates then unless reached by climb assembleRungs pathLent runRungs flowRungs publicCall publicCalls settled nextOpen leaves enters round flagged maskBelow reachable effectPasses reportRungs whole sixRoutes thirdOutcome sumWith row same wrong listed ranFrom judged assembledWith cases opened digitsIn digits sign decimal hasText magnitude value before judged-text all join line goodRow rows rowsOf textOf joined cut linesOf numbers wordsOf same-text goodLine refusedLine pathLine flowLines flowsLines sheetLines textCount wordsEntrance entrance written output wrote
+unfolding holds canHold canFail eqZ within bounded num minZ maxZ recordAt wordsAt numbersOf unused allBelow anyBelow sumBelow firstFail grown entry goodGroup goodGroups headerOf inLimits goodFrame goodHeader has allOf distinct joined-lists pick small factTypeOf rowOf fits tablesOf goodIn firstBad checked goodEntity goodChange goodTransition sameChange declared goodDefault agree goodFact goodFlow goodOperationStep goodBranchStep goodStep flowOf stepOf goodRouteOf goodRoute namedByRules namedByOperations namedBySteps goodRoot itemStep itemOf treeStep treeOf namedByNodes goodChildren goodNode goodMask goodOperation operationOf goodOutcome sameSource goodEffectOf goodEffect citesLower goodRule valueTaken assembled factFault firstRefused factsFault valueStep valueOf verdictsTo verdictsOf mover newState applied allowed ofOutcome starts moves matched unblocked applicable wantedOf goodWanted another only choice chosen stateIn firstStray statesFault attemptAnswer attempted statesAfter attemptedStates begins headOf following laid firstWalk firstLaid answerOf bufferOf nextWalk nextLaid greatest depth firstRouteOf routesOf ends target lastOf terminal onward inTurn pathsFrom paths path started taken-listing wantedAt outcomesAt goodWord goodWords answerRoute branchRoute routeTaken statesThen begun stepped runOn ran ranWalk ranPath ranStates then unless reached by climb assembleRungs wantedExists operateRungs stepsOr runRungs flowRungs publicCall publicCalls settled nextOpen leaves enters round flagged maskBelow reachable effectPasses reportRungs whole sixRoutes thirdOutcome sumWith row same wrong listed ranFrom operatedFrom wantedCases judged assembledWith cases opened digitsIn digits sign decimal hasText magnitude value before judged-text all join line goodRow rows rowsOf textOf joined cut linesOf numbers wordsOf same-text goodLine refusedLine pathLine flowLines flowsLines sheetLines textCount wordsEntrance entrance written output wrote
 none-wrong = refl

@@ -1,16 +1,16 @@
--- 01's proved cases as one table: each row is what a public call's contract says of it, beside what 01 says.
+-- The proved cases of 01 and of 02's requests as one table: each row is what a public call's contract says of it, beside what 01 says.
 -- Assumes nothing.
 use mathlib.Core.Bool.{Bool, true, false, _&&_}
 use mathlib.Core.List.{List, [], _∷_, _++_, map}
 use Prim.Native.Nat.{ℕ}
-use lib.IntN.{ℤ, pos}
+use lib.IntN.{ℤ, pos, negsuc}
 use lib.ListN.{replicate}
 use Rattle.signed.specs.Words.{eqZ}
 use Rattle.answer.specs.declared.Answer.{Answer}
 use Rattle.answer.specs.Answers.{statusAnswer, countAnswer, walkAnswer}
 use Rattle.records.specs.Accept.{checked}
 use Rattle.listing.specs.Lists.{Next, First}
-use Rattle.calls.specs.Evaluation.{assembleAnswer, assembleValues}
+use Rattle.calls.specs.Evaluation.{assembleAnswer, assembleValues, operateAnswer, operateStates}
 use Rattle.calls.specs.Flows.{runAnswer, runPath, runStates}
 use Rattle.calls.specs.Lists.{publicCall, publicCalls}
 use Rattle.text.specs.Lines.{textOf}
@@ -18,7 +18,7 @@ use Rattle.path_lines.specs.Output.{output}
 use Rattle.calls.specs.Reports.{reachableAnswer, depthAnswer}
 use Rattle.cases.specs.Sheets.{whole, sixRoutes, thirdOutcome, sumWith}
 
--- a case by its number in 01: the row that the definitions give, and the row that 01 gives
+-- a case by its number: the row that the definitions give, and the row that the papers give
 pub record Case : Type 0 where
   pub number : ℕ
   pub got : List ℤ
@@ -51,14 +51,22 @@ listed n =
     let t = publicCalls whole (pos 0) (publicCall whole (pos 0) rubbish First) (replicate n Next) in
     row (walkAnswer (t .answer)) [] (t .buffer)
 
--- a run with the fact lent as x and flagged g, from state q
-unfoldable pub ranFrom : ℕ → ℕ → ℕ → List ℤ
-ranFrom x g q =
+-- a run with the fact lent as x and flagged g, from state q; step 0 is a branch, step 1 an operation that wants w
+unfoldable pub ranFrom : ℕ → ℕ → ℕ → ℤ → List ℤ
+ranFrom x g q w =
     let values = pos x ∷ [] in
     let given = pos g ∷ [] in
     let states = pos q ∷ [] in
-    row (walkAnswer (runAnswer whole values given states (pos 0) rubbish)) (runStates whole values given states (pos 0) rubbish)
-    (runPath whole values given states (pos 0) rubbish)
+    let wanted = negsuc 0 ∷ w ∷ [] in
+    row (walkAnswer (runAnswer whole values given states (pos 0) wanted rubbish)) (runStates whole values given states (pos 0) wanted rubbish)
+    (runPath whole values given states (pos 0) wanted rubbish)
+
+-- the operation by itself, with the fact given as 1, from state q, with w wanted
+unfoldable pub operatedFrom : ℕ → ℤ → List ℤ
+operatedFrom q w =
+    let one = pos 1 ∷ [] in
+    let states = pos q ∷ [] in
+    row (countAnswer (operateAnswer whole one one states (pos 0) (pos 0) w)) (operateStates whole one one states (pos 0) (pos 0) w) []
 
 unfoldable pub judged : List ℤ → List ℤ
 judged s = row (statusAnswer (checked s)) [] []
@@ -73,6 +81,21 @@ wrote s = map pos (output (textOf s))
 
 -- ---- the table
 
+-- 02, CR 1, numbered 11: both outcomes start from state 0, and none from state 1
+unfoldable pub wantedCases : List Case
+wantedCases =
+    record { number = 11; got = operatedFrom 0 (pos 0); want = 0 ∷ 0 ∷ 0 ∷ 0 ∷ 1 ∷ [] }
+    ∷ record { number = 11; got = operatedFrom 0 (pos 1); want = 0 ∷ 0 ∷ 1 ∷ 0 ∷ 2 ∷ [] }
+    ∷ record { number = 11; got = operatedFrom 0 (negsuc 0); want = 16 ∷ 0 ∷ 0 ∷ 0 ∷ 0 ∷ [] }
+    ∷ record { number = 11; got = operatedFrom 1 (negsuc 0); want = 11 ∷ 0 ∷ 0 ∷ 0 ∷ 1 ∷ [] }
+    ∷ record { number = 11; got = operatedFrom 1 (pos 1); want = 11 ∷ 0 ∷ 0 ∷ 0 ∷ 1 ∷ [] }
+    ∷ record { number = 11; got = operatedFrom 0 (pos 2); want = 5 ∷ 0 ∷ 0 ∷ 0 ∷ 0 ∷ [] }
+    ∷ record { number = 11; got = operatedFrom 0 (negsuc 1); want = 5 ∷ 0 ∷ 0 ∷ 0 ∷ 0 ∷ [] }
+    ∷ record { number = 11; got = ranFrom 1 1 0 (pos 1); want = 0 ∷ 0 ∷ 0 ∷ 2 ∷ 2 ∷ 0 ∷ 3 ∷ [] }
+    ∷ record { number = 11; got = ranFrom 1 1 0 (negsuc 0); want = 0 ∷ 0 ∷ 2 ∷ 2 ∷ 0 ∷ 0 ∷ 4 ∷ [] }
+    ∷ record { number = 11; got = ranFrom 1 0 0 (pos 2); want = 5 ∷ 0 ∷ 0 ∷ 0 ∷ 0 ∷ 9 ∷ 9 ∷ [] }
+    ∷ []
+
 unfoldable pub cases : List Case
 cases =
     record { number = 1; got = listed 0; want = 0 ∷ 0 ∷ 0 ∷ 2 ∷ 0 ∷ 2 ∷ [] }
@@ -81,9 +104,9 @@ cases =
     ∷ record { number = 1; got = listed 3; want = 0 ∷ 0 ∷ 1 ∷ 1 ∷ 1 ∷ 0 ∷ [] }
     ∷ record { number = 1; got = listed 4; want = 13 ∷ 0 ∷ 0 ∷ 0 ∷ 1 ∷ 0 ∷ [] }
     ∷ record { number = 1; got = wrote whole; want = 48 ∷ 9 ∷ 48 ∷ 9 ∷ 48 ∷ 9 ∷ 50 ∷ 10 ∷ 48 ∷ 9 ∷ 48 ∷ 9 ∷ 48 ∷ 9 ∷ 51 ∷ 10 ∷ 48 ∷ 9 ∷ 50 ∷ 9 ∷ 48 ∷ 9 ∷ 52 ∷ 10 ∷ 48 ∷ 9 ∷ 49 ∷ 9 ∷ 49 ∷ 10 ∷ [] }
-    ∷ record { number = 2; got = ranFrom 1 1 0; want = 0 ∷ 0 ∷ 0 ∷ 2 ∷ 1 ∷ 0 ∷ 2 ∷ [] }
-    ∷ record { number = 3; got = ranFrom 1 0 0; want = 0 ∷ 0 ∷ 1 ∷ 1 ∷ 0 ∷ 1 ∷ 0 ∷ [] }
-    ∷ record { number = 4; got = ranFrom 1 1 1; want = 0 ∷ 0 ∷ 2 ∷ 2 ∷ 1 ∷ 0 ∷ 4 ∷ [] }
+    ∷ record { number = 2; got = ranFrom 1 1 0 (pos 0); want = 0 ∷ 0 ∷ 0 ∷ 2 ∷ 1 ∷ 0 ∷ 2 ∷ [] }
+    ∷ record { number = 3; got = ranFrom 1 0 0 (negsuc 0); want = 0 ∷ 0 ∷ 1 ∷ 1 ∷ 0 ∷ 1 ∷ 0 ∷ [] }
+    ∷ record { number = 4; got = ranFrom 1 1 1 (negsuc 0); want = 0 ∷ 0 ∷ 2 ∷ 2 ∷ 1 ∷ 0 ∷ 4 ∷ [] }
     ∷ record { number = 5; got = row (countAnswer (reachableAnswer whole (pos 0))) [] []; want = 0 ∷ 0 ∷ 7 ∷ 0 ∷ [] }
     ∷ record { number = 6; got = row (countAnswer (depthAnswer whole (pos 0))) [] []; want = 0 ∷ 0 ∷ 2 ∷ 0 ∷ [] }
     ∷ record { number = 7; got = judged sixRoutes; want = 1 ∷ 0 ∷ 0 ∷ 0 ∷ [] }
@@ -92,5 +115,5 @@ cases =
     ∷ record { number = 9; got = judged (sumWith 0); want = 0 ∷ 0 ∷ 0 ∷ 0 ∷ [] }
     ∷ record { number = 9; got = judged (sumWith 1); want = 3 ∷ 3 ∷ 0 ∷ 0 ∷ [] }
     ∷ record { number = 10; got = assembledWith 2 1; want = 6 ∷ 0 ∷ 0 ∷ 0 ∷ 2 ∷ [] }
-    ∷ record { number = 10; got = ranFrom 2 1 0; want = 6 ∷ 0 ∷ 0 ∷ 0 ∷ 0 ∷ 9 ∷ 9 ∷ [] }
-    ∷ []
+    ∷ record { number = 10; got = ranFrom 2 1 0 (pos 1); want = 6 ∷ 0 ∷ 0 ∷ 0 ∷ 0 ∷ 9 ∷ 9 ∷ [] }
+    ∷ wantedCases

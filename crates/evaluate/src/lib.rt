@@ -1,10 +1,11 @@
 // The calls on facts and one operation, for any input: each climbs the ladder of refusals, then does its work.
 ghost use mathlib.Core.Path.{_≡_};
 ghost use lib.ListN.{length};
+ghost use Rattle.records.specs.Accepted.{Accepted};
 ghost use Rattle.facts.specs.Assembled.{assembled};
 ghost use Rattle.predicate.specs.Verdicts.{verdictsOf};
 ghost use Rattle.calls.specs.Evaluation.{assembleClimb, assembleAnswer, assembleValues, verdictsClimb, verdictsAnswer, verdictsVerdicts};
-ghost use Rattle.calls.specs.Evaluation.{attemptedOver, attemptedStatesOver, operateClimb, operateAnswer, operateStates};
+ghost use Rattle.calls.specs.Evaluation.{wantedExists, attemptedOver, attemptedStatesOver, operateClimb, operateAnswer, operateStates};
 ghost use Rattle.evaluate.specs.Settled.{LentFacts, LentOperation};
 use answer::Count;
 use answer::Status;
@@ -21,7 +22,11 @@ use ladder::then_states;
 use layout::Header;
 use layout::Operation;
 use layout::Persona;
+use operation::Wanted;
+use operation::good_wanted;
+use operation::wanted_of;
 use predicate::fill_verdicts;
+use records::outcomes_of;
 use signed::num;
 
 // The rungs of fact assembly: 1 to 4, 6 and 7.
@@ -119,14 +124,15 @@ fn act_on(
     states: &mut [i64],
     p: Persona,
     o: Operation,
+    wanted: Wanted,
 ) -> Count
     requires { ⌜ LentOperation (now s) h (now values) (now given) (now states) (p .0) (o .0) ⌝ }
     requires { ⌜ (length (now facts) ≡ h .facts) × (length (now verdicts) ≡ h .rules) ⌝ }
-    ensures { λ r. ⌜ r ≡ attemptedOver (now (s .entry)) h (now (values .entry)) (now (given .entry)) (now (states .entry)) (p .0) (o .0) ⌝ }
-    ensures { λ r. ⌜ now (states .exit) ≡ attemptedStatesOver (now (s .entry)) h (now (values .entry)) (now (given .entry)) (now (states .entry)) (p .0) (o .0) ⌝ }
+    ensures { λ r. ⌜ r ≡ attemptedOver (now (s .entry)) h (now (values .entry)) (now (given .entry)) (now (states .entry)) (p .0) (o .0) wanted ⌝ }
+    ensures { λ r. ⌜ now (states .exit) ≡ attemptedStatesOver (now (s .entry)) h (now (values .entry)) (now (given .entry)) (now (states .entry)) (p .0) (o .0) wanted ⌝ }
 {
     settle(s, h, values, given, facts, verdicts);
-    attempt(s, h, facts, verdicts, states, p, o)
+    attempt(s, h, facts, verdicts, states, p, o, wanted)
 }
 
 fn act(
@@ -137,10 +143,11 @@ fn act(
     states: &mut [i64],
     p: Persona,
     o: Operation,
+    wanted: Wanted,
 ) -> Count
     requires { ⌜ LentOperation (now s) h (now values) (now given) (now states) (p .0) (o .0) ⌝ }
-    ensures { λ r. ⌜ r ≡ attemptedOver (now (s .entry)) h (now (values .entry)) (now (given .entry)) (now (states .entry)) (p .0) (o .0) ⌝ }
-    ensures { λ r. ⌜ now (states .exit) ≡ attemptedStatesOver (now (s .entry)) h (now (values .entry)) (now (given .entry)) (now (states .entry)) (p .0) (o .0) ⌝ }
+    ensures { λ r. ⌜ r ≡ attemptedOver (now (s .entry)) h (now (values .entry)) (now (given .entry)) (now (states .entry)) (p .0) (o .0) wanted ⌝ }
+    ensures { λ r. ⌜ now (states .exit) ≡ attemptedStatesOver (now (s .entry)) h (now (values .entry)) (now (given .entry)) (now (states .entry)) (p .0) (o .0) wanted ⌝ }
 {
     let mut facts = [0i64; Header::FACTS];
     let mut verdicts = [0i64; Header::RULES];
@@ -156,7 +163,20 @@ fn act(
         states,
         p,
         o,
+        wanted,
     )
+}
+
+// Whether the operation exists and may want what the word says.
+fn wanted_exists(s: &[i64], h: Header, operation: i64, wanted: i64) -> bool
+    requires { ⌜ Accepted (now s) h ⌝ }
+    ensures { λ b. ⌜ b ≡ wantedExists (now (s .entry)) h operation wanted ⌝ }
+{
+    if !exists(operation, h.operations) {
+        return false;
+    }
+    let n = outcomes_of(s, h, Operation(num(operation)));
+    good_wanted(n, wanted_of(wanted))
 }
 
 // The rungs of an operation: 1 to 8.
@@ -167,14 +187,15 @@ fn climb_operate(
     states: &[i64],
     persona: i64,
     operation: i64,
+    wanted: i64,
 ) -> Climbed
-    ensures { λ c. ⌜ c ≡ operateClimb (now (s .entry)) (now (values .entry)) (now (given .entry)) (now (states .entry)) persona operation ⌝ }
+    ensures { λ c. ⌜ c ≡ operateClimb (now (s .entry)) (now (values .entry)) (now (given .entry)) (now (states .entry)) persona operation wanted ⌝ }
 {
     match open_sheet(s) {
         Climbed::Stopped(r) => Climbed::Stopped(r),
         Climbed::At(h) => {
             let long = facts_lent(h, values, given) & (states.len() == h.entities);
-            let known = exists(persona, h.personas) & exists(operation, h.operations);
+            let known = exists(persona, h.personas) & wanted_exists(s, h, operation, wanted);
             let t = judge_call(long, known);
             let u = then_facts(t, s, h, values, given);
             reached(then_states(u, s, h, states), h)
@@ -182,7 +203,7 @@ fn climb_operate(
     }
 }
 
-// One operation by a persona: its outcome.
+// One operation by a persona, with the outcome that is wanted or −1: its outcome.
 pub fn operate(
     s: &[i64],
     values: &[i64],
@@ -190,11 +211,12 @@ pub fn operate(
     states: &mut [i64],
     persona: i64,
     operation: i64,
+    wanted: i64,
 ) -> Count
-    ensures { λ r. ⌜ r ≡ operateAnswer (now (s .entry)) (now (values .entry)) (now (given .entry)) (now (states .entry)) persona operation ⌝ }
-    ensures { λ r. ⌜ now (states .exit) ≡ operateStates (now (s .entry)) (now (values .entry)) (now (given .entry)) (now (states .entry)) persona operation ⌝ }
+    ensures { λ r. ⌜ r ≡ operateAnswer (now (s .entry)) (now (values .entry)) (now (given .entry)) (now (states .entry)) persona operation wanted ⌝ }
+    ensures { λ r. ⌜ now (states .exit) ≡ operateStates (now (s .entry)) (now (values .entry)) (now (given .entry)) (now (states .entry)) persona operation wanted ⌝ }
 {
-    match climb_operate(s, values, given, states, persona, operation) {
+    match climb_operate(s, values, given, states, persona, operation, wanted) {
         Climbed::Stopped(r) => Count::Refused(r),
         Climbed::At(h) => act(
             s,
@@ -204,6 +226,7 @@ pub fn operate(
             states,
             Persona(num(persona)),
             Operation(num(operation)),
+            wanted_of(wanted),
         ),
     }
 }

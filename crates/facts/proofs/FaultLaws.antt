@@ -16,9 +16,10 @@ use Rattle.tables.proofs.Grown.{length-grown, grown-at}
 use Rattle.signed.specs.Words.{eqZ}
 use Rattle.signed.proofs.Bounds.{true-in}
 use Rattle.words.specs.Record.{word, recordAt}
+use Rattle.answer.specs.declared.Refusal.{Refusal}
 use Rattle.answer.specs.declared.Refusal.the-variants.{FactValue, FactAbsent}
 use Rattle.answer.specs.declared.Status.the-variants.{Done, Refused}
-use Rattle.answer.specs.Inner.{SmallStatus}
+use Rattle.answer.specs.Inner.{Every}
 use Rattle.layout.specs.declared.Header.{Header}
 use Rattle.records.specs.Accepted.{Accepted}
 use Rattle.records.proofs.FactLaws.{fact-ok}
@@ -45,10 +46,10 @@ module _ (s : List ℤ) (k : ℕ) (x g : ℤ) where
   unfair p q = rw (p, q, factFault)
 
   -- a fact's fault has the fact's number for its place
-  fault-place : k < 2 ^ 63 → SmallStatus (factFault s k x g)
-  fault-place l =
+  fault-is : (P : Refusal → Type 0) → P (FactAbsent k) → P (FactValue k) → Every P (factFault s k x g)
+  fault-is P l m =
       ⊎-elim (λ p. ⊎-elim (λ q. rw (defaulted p q) tt) (λ q. rw (absent p q) l) (bool-cases (hasDefault s k)))
-      (λ p. ⊎-elim (λ q. rw (fair p q) tt) (λ q. rw (unfair p q) l) (bool-cases (eqZ g (pos 1) && inFact s k x))) (bool-cases (eqZ g (pos 0)))
+      (λ p. ⊎-elim (λ q. rw (fair p q) tt) (λ q. rw (unfair p q) m) (bool-cases (eqZ g (pos 1) && inFact s k x))) (bool-cases (eqZ g (pos 0)))
 
   -- a given value is taken as it is, and else the default
   pub taken-default : eqZ g (pos 0) ≡ true → valueTaken s k x g ≡ word s k 4
@@ -109,9 +110,9 @@ module _ (s : List ℤ) (h : Header) (values given : List ℤ) where
             (none-refused (λ k. factFault s k (getD values k (pos 0)) (getD given k (pos 0))) (h .facts) e k l));
       }
 
-  -- the place of a fault is a fact's number, which a word holds
-  pub fault-small : h .facts ≤ 128 → SmallStatus (factsFault s h values given)
+  -- a fault is 7 or 6 at a fact's number
+  pub fault-every : (P : Refusal → Type 0) → ((k : ℕ) → k < h .facts → P (FactAbsent k) × P (FactValue k)) → Every P (factsFault s h values given)
   unfolding factsFault
-  fault-small b =
-      first-by (λ k. factFault s k (getD values k (pos 0)) (getD given k (pos 0))) SmallStatus tt 0 (h .facts)
-      (λ j p q. fault-place s j (getD values j (pos 0)) (getD given j (pos 0)) (omega arith))
+  fault-every P b =
+      first-by (λ k. factFault s k (getD values k (pos 0)) (getD given k (pos 0))) (Every P) tt 0 (h .facts)
+      (λ j p q. fault-is s j (getD values j (pos 0)) (getD given j (pos 0)) P (b j (omega arith) .0) (b j (omega arith) .1))

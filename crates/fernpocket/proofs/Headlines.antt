@@ -7,7 +7,7 @@ use mathlib.Core.Bool.{true}
 use mathlib.Core.List.{List, _∷_}
 use mathlib.Core.Logic.{_↔_}
 use Prim.Native.Nat.{ℕ, _%_, _≤_, _<_}
-use lib.IntN.{ℤ, pos}
+use lib.IntN.{ℤ, pos, negsuc}
 use lib.ListN.{length, take}
 use Rattle.signed.specs.Words.{num}
 use Rattle.signed.proofs.Numbers.{num-of}
@@ -21,6 +21,7 @@ use Rattle.decimal.specs.Decimal.{hasText}
 use Rattle.text.specs.Lines.{all, textOf}
 use Rattle.text.specs.Calls.{readAnswer, readBuffer, writeAnswer, writeBuffer}
 use Rattle.text.proofs.RoundTrips.{text-again, words-again, one-text}
+use Rattle.records.specs.Operations.{outcomes}
 use Rattle.operation.specs.Mask.{inMask}
 use Rattle.operation.specs.States.{present}
 use Rattle.operation.specs.Outcomes.{moves}
@@ -34,16 +35,18 @@ use Rattle.calls.specs.Flows.{firstAnswer, firstPath, nextAnswer, nextPath, run
 use Rattle.calls.specs.Reports.{reachableAnswer}
 use Rattle.calls.specs.Lists.{publicCall, publicCalls, ListedNumbers}
 use Rattle.flows.proofs.PublicListing.{public-numbers, public-whole}
-use Rattle.fernpocket.specs.Promised.{Went, WasRefused, FlowReady, readTo13, RanPath, Operated, Foreseen}
+use Rattle.fernpocket.specs.Before.{operateBefore, statesBefore}
+use Rattle.fernpocket.specs.Promised.{Went, WasRefused, FlowReady, readTo13, RanPath, TwoApply, Operated, NoneApplies, Decided, Foreseen}
+use Rattle.fernpocket.proofs.AsBefore.{before-unless-16, one-never-16}
 use Rattle.fernpocket.proofs.Covered.{covered, applied-covered, still-reached}
-use Rattle.fernpocket.proofs.InNumbers.{went-is, listable, ready-sheet, ready-flow, read-same, ran-path, operated, mask-reached}
+use Rattle.fernpocket.proofs.InNumbers.{went-is, listable, ready-sheet, ready-flow, read-same, ran-path, operated, eleven, sixteen, two-sixteen, mask-reached}
 use Rattle.fernpocket.proofs.InNumbers.{read-kept, write-kept, assemble-kept, verdicts-kept, operate-kept}
 use Rattle.fernpocket.proofs.InNumbers.{run-path-kept, run-states-kept, first-kept, next-kept}
 
 -- ---- demand 1: refusals
 
--- A refusal's number is 1 to 15, so that 0 says that a call went through.
-pub refusal-numbers : (r : Refusal) → (1 ≤ number r) × (number r ≤ 15)
+-- A refusal's number is 1 to 16, so that 0 says that a call went through.
+pub refusal-numbers : (r : Refusal) → (1 ≤ number r) × (number r ≤ 16)
 refusal-numbers = number-range
 
 -- A number and a place say which refusal it is.
@@ -65,16 +68,16 @@ pub refused-verdicts : (s values given verdicts : List ℤ)
     → verdictsVerdicts s values given verdicts ≡ verdicts
 refused-verdicts = verdicts-kept
 
-pub refused-operate : (s values given states : List ℤ) (persona operation : ℤ)
-    → WasRefused (countAnswer (operateAnswer s values given states persona operation))
-    → operateStates s values given states persona operation ≡ states
+pub refused-operate : (s values given states : List ℤ) (persona operation wanted : ℤ)
+    → WasRefused (countAnswer (operateAnswer s values given states persona operation wanted))
+    → operateStates s values given states persona operation wanted ≡ states
 refused-operate = operate-kept
 
-pub refused-run : (s values given states : List ℤ) (flow : ℤ) (path : List ℕ)
-    → WasRefused (walkAnswer (runAnswer s values given states flow path))
-    → (runPath s values given states flow path ≡ path) × (runStates s values given states flow path ≡ states)
-refused-run s values given states flow path x =
-    (run-path-kept s values given states flow path x, run-states-kept s values given states flow path x)
+pub refused-run : (s values given states : List ℤ) (flow : ℤ) (wanted : List ℤ) (path : List ℕ)
+    → WasRefused (walkAnswer (runAnswer s values given states flow wanted path))
+    → (runPath s values given states flow wanted path ≡ path) × (runStates s values given states flow wanted path ≡ states)
+refused-run s values given states flow wanted path x =
+    (run-path-kept s values given states flow wanted path x, run-states-kept s values given states flow wanted path x)
 
 pub refused-first : (s : List ℤ) (flow : ℤ) (path : List ℕ) → WasRefused (walkAnswer (firstAnswer s flow path)) → firstPath s flow path ≡ path
 refused-first = first-kept
@@ -84,29 +87,39 @@ refused-next = next-kept
 
 -- ---- demand 2: operations, and what the reports say of them
 
-module _ (s values given states : List ℤ) (persona operation : ℤ) where
+module _ (s values given states : List ℤ) (persona operation wanted : ℤ) where
   abbrev after : List ℤ
-  after = operateStates s values given states persona operation
+  after = operateStates s values given states persona operation wanted
 
   -- An operation that goes through makes the changes of its chosen outcome that start from the present states, and no others.
-  pub operate-changes : (j : ℕ) → Went (countAnswer (operateAnswer s values given states persona operation)) j
-      → Operated s values given states persona operation j
-  operate-changes j w = operated s values given states persona operation j (went-is (operateAnswer s values given states persona operation) w)
+  pub operate-changes : (j : ℕ) → Went (countAnswer (operateAnswer s values given states persona operation wanted)) j
+      → Operated s values given states persona operation wanted j
+  operate-changes j w = operated s values given states persona operation wanted j (went-is (operateAnswer s values given states persona operation wanted) w)
+
+  -- 02, CR 1: refused 11, the wanted outcome is not applicable, or with −1 none is.
+  pub eleven-none : countAnswer (operateAnswer s values given states persona operation wanted) .refusal ≡ pos 11 → NoneApplies s states operation wanted
+  eleven-none = eleven s values given states persona operation wanted
+
+  -- Of the calls that get as far as the states, exactly those are refused 16 that carry −1 and have two applicable outcomes or more.
+  pub sixteen-two : Decided (countAnswer (operateAnswer s values given states persona operation wanted))
+      → (countAnswer (operateAnswer s values given states persona operation wanted) .refusal ≡ pos 16)
+      ↔ ((wanted ≡ negsuc 0) × TwoApply s states (num operation))
+  sixteen-two d = (sixteen s values given states persona operation wanted, λ t. two-sixteen s values given states persona operation wanted d (t .0) (t .1))
 
   module _ (n : ℕ) (l : n < headerOf s .entities) where
     -- Whatever state an operation call changed, S3a and S4 answer yes to for the persona who made it.
     pub change-foreseen : (present states n ≡ present after n → ⊥) → Foreseen s persona operation n (present states n) (present after n)
     change-foreseen x =
-        let y = covered s values given states persona operation n l x in
+        let y = covered s values given states persona operation wanted n l x in
         record { admissible = ap countAnswer (y .0); caused = ap countAnswer (y .1) }
 
     -- And so for each effect of the outcome answered that started from its entity's state, also one that leads back to that state.
-    pub effect-foreseen : (j e : ℕ) → Went (countAnswer (operateAnswer s values given states persona operation)) j
+    pub effect-foreseen : (j e : ℕ) → Went (countAnswer (operateAnswer s values given states persona operation wanted)) j
         → moves s (headerOf s) states (num operation) j n e ≡ true
         → Foreseen s persona operation n (effect s (headerOf s) e .w1) (effect s (headerOf s) e .w2)
     effect-foreseen j e w m =
         let y =
-        applied-covered s values given states persona operation n l j e (went-is (operateAnswer s values given states persona operation) w)
+        applied-covered s values given states persona operation wanted n l j e (went-is (operateAnswer s values given states persona operation wanted) w)
         (moves-true s (headerOf s) states (num operation) j n e m) in
         record { admissible = ap countAnswer (y .0); caused = ap countAnswer (y .1) }
 
@@ -115,7 +128,22 @@ module _ (s values given states : List ℤ) (persona operation : ℤ) where
         → inMask mask (present states n) ≡ true → inMask mask (present after n) ≡ true
     reached-stays mask w b =
         let is = rw (num-of n) at (mask-reached s (pos n) mask (went-is (reachableAnswer s (pos n)) w)) in
-        is (present after n) .0 (still-reached s values given states persona operation n l (is (present states n) .1 b))
+        is (present after n) .0 (still-reached s values given states persona operation wanted n l (is (present states n) .1 b))
+
+-- With −1 an operation call answers and leaves what 01's own rule, the first applicable outcome, answered and left, unless it is refused 16;
+pub as-before : (s values given states : List ℤ) (persona operation : ℤ)
+    → (countAnswer (operateAnswer s values given states persona operation (negsuc 0)) .refusal ≡ pos 16 → ⊥)
+    → (operateAnswer s values given states persona operation (negsuc 0) ≡ operateBefore s values given states persona operation)
+    × (operateStates s values given states persona operation (negsuc 0) ≡ statesBefore s values given states persona operation)
+as-before = before-unless-16
+
+-- and an operation with one outcome never is.
+pub one-outcome-as-before : (s values given states : List ℤ) (persona operation : ℤ)
+    → outcomes s (headerOf s) (num operation) ≡ 1
+    → (operateAnswer s values given states persona operation (negsuc 0) ≡ operateBefore s values given states persona operation)
+    × (operateStates s values given states persona operation (negsuc 0) ≡ statesBefore s values given states persona operation)
+one-outcome-as-before s values given states persona operation n =
+    before-unless-16 s values given states persona operation (one-never-16 s values given states persona operation n)
 
 -- S2's mask has exactly the states reached from the initial one by zero or more declared transitions.
 pub mask-is-reached : (s : List ℤ) (entity : ℤ) (mask : ℕ) → Went (countAnswer (reachableAnswer s entity)) mask
@@ -182,9 +210,9 @@ module _ {s : List ℤ} {flow : ℤ} {path : List ℕ} (u : FlowReady s flow pat
       let only : ps ≡ paths s (headerOf s) (num flow) = paths-only w in
       read-same u k ∙ public-whole (listable u) k (rw only at l) .0 ∙ sym only
 
--- Any run that is not refused, whatever its facts and states, takes the routes of one of these paths, and answers that path's terminal and
--- length.
-pub run-takes-listed-path : (s values given states : List ℤ) (flow : ℤ) (path : List ℕ)
-    → walkAnswer (runAnswer s values given states flow path) .refusal ≡ pos 0
-    → RanPath s values given states flow path
+-- Any run that is not refused, whatever its facts and states and whatever its steps want, takes the routes of one of these paths, and answers
+-- that path's terminal and length.
+pub run-takes-listed-path : (s values given states : List ℤ) (flow : ℤ) (wanted : List ℤ) (path : List ℕ)
+    → walkAnswer (runAnswer s values given states flow wanted path) .refusal ≡ pos 0
+    → RanPath s values given states flow wanted path
 run-takes-listed-path = ran-path

@@ -3,34 +3,41 @@
 use mathlib.Core.Path.{_≡_, refl, sym, ap, subst, _∙_}
 use mathlib.Core.Bool.{Bool, true}
 use mathlib.Core.List.{List, [], _∷_, _++_}
-use mathlib.Core.Logic.{_↔_}
-use Prim.Native.Nat.{ℕ, zero, suc, _<_}
-use lib.IntN.{ℤ, pos}
+use mathlib.Core.Logic.{_↔_, _⊎_, inl, inr}
+use Prim.Native.Nat.{ℕ, zero, suc, _<_, _^_}
+use lib.IntN.{ℤ, pos, negsuc}
 use lib.ListN.{length, take}
 use native.Mathlib.Omega.{arith}
 use native.Mathlib.Decide.{decLt}
 use borrow.Author.Tests.{ltb-true}
+use Rattle.tables.proofs.Bools.{true-false}
 use Rattle.signed.specs.Words.{num, eqZ}
+use Rattle.signed.proofs.Numbers.{num-pos}
 use Rattle.answer.specs.declared.Refusal.{Refusal}
-use Rattle.answer.specs.declared.Refusal.the-variants.{LastPath}
+use Rattle.answer.specs.declared.Refusal.the-variants.{NoOutcome, LastPath, ManyOutcomes}
 use Rattle.answer.specs.declared.Status.{Status}
 use Rattle.answer.specs.declared.Status.the-variants.{Refused}
 use Rattle.answer.specs.declared.Count.{Count}
 use Rattle.answer.specs.declared.Count.the-variants.{Is, Refused as NoCount}
 use Rattle.answer.specs.declared.Walk.{Walk}
 use Rattle.answer.specs.declared.Walk.the-variants.{Path as Walked, Refused as NoWalk}
+use Rattle.answer.specs.Number.{number}
 use Rattle.answer.specs.Answers.{statusAnswer, countAnswer, walkAnswer}
-use Rattle.answer.proofs.Numbers.{status-done, count-done, walk-done}
+use Rattle.answer.proofs.Numbers.{number-some, status-done, count-done, count-eleven, count-sixteen, walk-done}
 use Rattle.layout.specs.declared.Header.{Header}
 use Rattle.layout.specs.Header.{headerOf}
 use Rattle.records.specs.Accepted.{Accepted}
 use Rattle.records.proofs.Acceptance.{accepted}
+use Rattle.records.specs.Operations.{outcomes}
+use Rattle.records.proofs.OperationLaws.{operation-ok}
 use Rattle.operation.specs.Mask.{inMask}
+use Rattle.operation.specs.Outcomes.{wantedOf, applicable, chosen}
 use Rattle.operation.proofs.Movers.{moves-true, true-moves}
-use Rattle.operation.proofs.Guarantees.{Fate, moved as Goes, unmoved as Stays, chosen-first, fate}
+use Rattle.operation.proofs.Guarantees.{Fate, moved as Goes, unmoved as Stays, fate}
+use Rattle.operation.proofs.Choices.{chosen-applies, word-wanted, word-alone, word-none, word-not, word-several}
 use Rattle.facts.specs.Assembled.{assembled}
 use Rattle.predicate.specs.Verdicts.{verdictsOf}
-use Rattle.attempt.proofs.AttemptLaws.{Comes, barred, untrue, stuck, went, comes, outcome-states, refused-states}
+use Rattle.attempt.proofs.AttemptLaws.{stuck-so, several-so, outcome-states, refused-states}
 use Rattle.walks.specs.Paths.{PathOf, paths, Among}
 use Rattle.walks.specs.Follows.{Following, Absent, Final, Then, following}
 use Rattle.listing.specs.Calls.{firstWalk, nextWalk, nextLaid, answerOf, bufferOf}
@@ -43,6 +50,8 @@ use Rattle.ladder.specs.declared.Climbed.{Climbed}
 use Rattle.ladder.specs.declared.Climbed.the-variants.{At, Stopped}
 use Rattle.ladder.specs.Ladder.{opened, by, left, exists}
 use Rattle.ladder.proofs.ClimbLaws.{worked, by-all, climbed-at, opened-at, opened-done}
+use Rattle.causes.proofs.Caused.{went-so}
+use Rattle.evaluate.proofs.EvaluateLaws.{operate-early, asked-wanted}
 use Rattle.calls.specs.Evaluation.{assembleClimb, assembleAnswer, assembleValues, verdictsClimb, verdictsAnswer, verdictsVerdicts}
 use Rattle.calls.specs.Evaluation.{operateClimb, attemptedOver, attemptedStatesOver, operateAnswer, operateStates}
 use Rattle.calls.specs.Flows.{flowClimb, firstAnswer, firstPath, nextAnswer, nextPath}
@@ -55,7 +64,7 @@ use Rattle.flows.proofs.PublicListing.{public-listing, run-takes-path}
 use Rattle.text.specs.Lines.{wordsOf, textOf}
 use Rattle.text.specs.Calls.{readAnswer, readBuffer, writeAnswer, writeBuffer, filled}
 use Rattle.reports.proofs.ReportLaws.{asked, reachable-is}
-use Rattle.fernpocket.specs.Promised.{Went, WasRefused, FlowReady, readTo13, RanPath, After, moved, stayed, Operated}
+use Rattle.fernpocket.specs.Promised.{Went, WasRefused, FlowReady, readTo13, RanPath, After, moved, stayed, TwoApply, Operated, NoneApplies, Decided}
 use Rattle.fernpocket.proofs.Covered.{under-header, Made, made, made-after, attempt-ready}
 
 -- ---- answers
@@ -110,20 +119,20 @@ module _ {s : List ℤ} {f : ℤ} {b : List ℕ} (u : FlowReady s f b) where
 
 -- ---- runs
 
-module _ (s values given states : List ℤ) (f : ℤ) (b : List ℕ) where
-  pub ran-path : walkAnswer (runAnswer s values given states f b) .refusal ≡ pos 0 → RanPath s values given states f b
+module _ (s values given states : List ℤ) (f : ℤ) (words : List ℤ) (b : List ℕ) where
+  pub ran-path : walkAnswer (runAnswer s values given states f words b) .refusal ≡ pos 0 → RanPath s values given states f words b
   ran-path e =
-      let w = walk-done (runAnswer s values given states f b) e in
-      by-all (λ (a : Walk). a ≡ Walked (w .0) (w .1) → RanPath s values given states f b) (runClimb s values given states f (length b)) NoWalk _
+      let w = walk-done (runAnswer s values given states f words b) e in
+      by-all (λ (a : Walk). a ≡ Walked (w .0) (w .1) → RanPath s values given states f words b) (runClimb s values given states f words (length b)) NoWalk _
       (λ r p q. let z : _≡_ {A = ℕ} 0 1 = cc in absurd (omega arith))
-      (λ h p q. took p (run-takes-path s values given states f b (w .0) (w .1) (w .2)))
+      (λ h p q. took p (run-takes-path s values given states f words b (w .0) (w .1) (w .2)))
       (w .2)
     where
-      took : {h : Header} → runClimb s values given states f (length b) ≡ At h → TookPath s values given states f b
-          → RanPath s values given states f b
+      took : {h : Header} → runClimb s values given states f words (length b) ≡ At h → TookPath s values given states f words b
+          → RanPath s values given states f words b
       took p r =
           let header : headerOf s ≡ r .header = opened-at s refl (r .sheet) .header in
-          let lent = going s values given states f b refl (under-header s (runRungs s values given states f (length b)) p) .lent in
+          let lent = going s values given states f words b refl (under-header s (runRungs s values given states f words (length b)) p) .lent in
           let whole = path-list s (headerOf s) (lent .sheet) (num f) (lent .flow) .whole in
           let listed : Among (paths s (headerOf s) (num f)) (r .path) = rw header (r .listed) in
           record {
@@ -144,21 +153,21 @@ unfolding by
 kept P (At h) f g old work k x = k h refl x
 kept P (Stopped r) f g old work k x = refl
 
-module _ (s values given states : List ℤ) (f : ℤ) (b : List ℕ) where
+module _ (s values given states : List ℤ) (f : ℤ) (words : List ℤ) (b : List ℕ) where
   -- no run is refused past the ladder
-  runs : (h : Header) → runClimb s values given states f (length b) ≡ At h → WasRefused (walkAnswer (ranWalkOver s h values given states (num f))) → ⊥
+  runs : (h : Header) → runClimb s values given states f words (length b) ≡ At h → WasRefused (walkAnswer (ranWalkOver s h values given states (num f) words)) → ⊥
   runs h e x =
-      x (ap (λ (a : Walk). walkAnswer a .refusal) (run-listed (runnable (going s values given states f b refl e) refl refl) .answers))
+      x (ap (λ (a : Walk). walkAnswer a .refusal) (run-listed (runnable (going s values given states f words b refl e) refl refl) words .answers))
 
-  module _ (x : WasRefused (walkAnswer (runAnswer s values given states f b))) where
-    pub run-path-kept : runPath s values given states f b ≡ b
+  module _ (x : WasRefused (walkAnswer (runAnswer s values given states f words b))) where
+    pub run-path-kept : runPath s values given states f words b ≡ b
     run-path-kept =
-        kept (λ (a : Walk). WasRefused (walkAnswer a)) (runClimb s values given states f (length b)) NoWalk _ b _
+        kept (λ (a : Walk). WasRefused (walkAnswer a)) (runClimb s values given states f words (length b)) NoWalk _ b _
         (λ h e y. absurd (runs h e y)) x
 
-    pub run-states-kept : runStates s values given states f b ≡ states
+    pub run-states-kept : runStates s values given states f words b ≡ states
     run-states-kept =
-        kept (λ (a : Walk). WasRefused (walkAnswer a)) (runClimb s values given states f (length b)) NoWalk _ states _
+        kept (λ (a : Walk). WasRefused (walkAnswer a)) (runClimb s values given states f words (length b)) NoWalk _ states _
         (λ h e y. absurd (runs h e y)) x
 
 module _ (s : List ℤ) (f : ℤ) (b : List ℕ) where
@@ -208,51 +217,102 @@ fate-after : {s : List ℤ} {h : Header} {states : List ℤ} {o j n : ℕ} {stat
 fate-after {s} {h} {states} {o} {j} {n} (Goes e m q) = moved e (true-moves s h states o j n e m) q
 fate-after {s} {h} {states} {o} {j} {n} (Stays f q) = stayed (λ e t. f e (moves-true s h states o j n e t)) q
 
-module _ (s values given states : List ℤ) (p o : ℤ) where
+module _ (s values given states : List ℤ) (p o v : ℤ) where
   abbrev facts : List ℤ
   facts = assembled s (headerOf s) values given
 
   abbrev verdicts : List ℤ
   verdicts = verdictsOf s (headerOf s) facts
 
-  attempt-kept : (h : Header) (c : Count) → attemptedOver s h values given states (num p) (num o) ≡ c → WasRefused (countAnswer c)
-      → attemptedStatesOver s h values given states (num p) (num o) ≡ states
+  attempt-kept : (h : Header) (c : Count) → attemptedOver s h values given states (num p) (num o) (wantedOf v) ≡ c → WasRefused (countAnswer c)
+      → attemptedStatesOver s h values given states (num p) (num o) (wantedOf v) ≡ states
   attempt-kept h (Is j) q x = absurd (x refl)
-  attempt-kept h (NoCount r) q x = refused-states s h _ _ states (num p) (num o) r q
+  attempt-kept h (NoCount r) q x = refused-states s h _ _ states (num p) (num o) (wantedOf v) r q
 
-  pub operate-kept : WasRefused (countAnswer (operateAnswer s values given states p o)) → operateStates s values given states p o ≡ states
+  pub operate-kept : WasRefused (countAnswer (operateAnswer s values given states p o v)) → operateStates s values given states p o v ≡ states
   operate-kept x =
-      kept (λ (a : Count). WasRefused (countAnswer a)) (operateClimb s values given states p o) NoCount _ states _
-      (λ h e y. attempt-kept h (attemptedOver s h values given states (num p) (num o)) refl y) x
+      kept (λ (a : Count). WasRefused (countAnswer a)) (operateClimb s values given states p o v) NoCount _ states _
+      (λ h e y. attempt-kept h (attemptedOver s h values given states (num p) (num o) (wantedOf v)) refl y) x
 
-  pub operated : (j : ℕ) → operateAnswer s values given states p o ≡ Is j → Operated s values given states p o j
-  operated j q =
-      by-all (λ (a : Count). a ≡ Is j → Operated s values given states p o j) (operateClimb s values given states p o) NoCount _
-      (λ r e a. let z : _≡_ {A = ℕ} 0 1 = cc in absurd (omega arith))
-      (λ h e a. past (made s values given states p o e) (worked _ _ refl (made s values given states p o e) refl ∙ q) comes)
+  -- an answer that no rung of the ladder gives is the attempt's
+  past : (c : Count) → ((r : Refusal) → c ≡ NoCount r → 8 < number r) → operateAnswer s values given states p o v ≡ c
+      → Made s values given states p o v × (attemptedOver s (headerOf s) values given states (num p) (num o) (wantedOf v) ≡ c)
+  past c late q =
+      by-all
+      (λ (a : Count). a ≡ c
+      → Made s values given states p o v × (attemptedOver s (headerOf s) values given states (num p) (num o) (wantedOf v) ≡ c))
+      (operateClimb s values given states p o v) NoCount _
+      (λ r e a. absurd (omega (arith, operate-early s values given states p o v e, late r (sym a))))
+      (λ h e a. (made s values given states p o v e, worked _ _ refl (made s values given states p o v e) refl ∙ q))
       q
+
+  abbrev applies : ℕ → Bool
+  applies = applicable s (headerOf s) states (num o)
+
+  abbrev many : ℕ
+  many = outcomes s (headerOf s) (num o)
+
+  pub operated : (j : ℕ) → operateAnswer s values given states p o v ≡ Is j → Operated s values given states p o v j
+  unfolding chosen
+  operated j q =
+      let k = past (Is j) (λ r e. let z : _≡_ {A = ℕ} 0 1 = cc in absurd (omega arith)) q in
+      let ready = attempt-ready s values given states p o v (k .0) in
+      let w = went-so (wantedOf v) j (k .1) in
+      let c = chosen-applies applies many (wantedOf v) j (w .chosen) in
+      let few : j < 2 ^ 63 = omega (arith, c .0, operation-ok (ready .ready .accepted) (num o) (ready .ready .exists) .outcomes-few) in
+      let changed = made-after s values given states p o v (k .0)
+      ∙ outcome-states s (headerOf s) facts verdicts states (num p) (num o) (wantedOf v) j (k .1) in
+      record {
+        persona = w .allowed;
+        holds = w .truth;
+        exists = c .0;
+        applies = c .1;
+        wanted = λ x. num-pos v (word-wanted applies many v j (w .chosen) x) few;
+        alone = λ e. word-alone applies many v j (w .chosen) e .alone;
+        each = λ n l. rw changed (fate-after (fate (ready .ready) j n l));
+      }
+
+  pub eleven : countAnswer (operateAnswer s values given states p o v) .refusal ≡ pos 11 → NoneApplies s states o v
+  unfolding chosen
+  eleven e =
+      let k = past (NoCount NoOutcome) (λ r z. let y : NoOutcome ≡ r = cc in rw (← y) (omega arith)) (count-eleven (operateAnswer s values given states p o v) e) in
+      let c = stuck-so s (headerOf s) facts verdicts states (num p) (num o) (wantedOf v) (k .1) in
+      record {
+        wanted = word-not applies many v (asked-wanted s values given states p o v (k .0)) c;
+        none = word-none applies many v c;
+      }
+
+  pub sixteen : countAnswer (operateAnswer s values given states p o v) .refusal ≡ pos 16 → (v ≡ negsuc 0) × TwoApply s states (num o)
+  unfolding chosen
+  sixteen e =
+      let k = past (NoCount ManyOutcomes) (λ r z. let y : ManyOutcomes ≡ r = cc in rw (← y) (omega arith)) (count-sixteen (operateAnswer s values given states p o v) e) in
+      let t = word-several applies many v (several-so s (headerOf s) facts verdicts states (num p) (num o) (wantedOf v) (k .1)) in (
+        t .0,
+        record {
+          one = t .1 .first;
+          other = t .1 .second;
+          order = t .1 .order;
+          exists = t .1 .exists;
+          one-applies = t .1 .one;
+          other-applies = t .1 .other;
+        },
+      )
+
+  -- with −1 and two applicable outcomes, what is decided is 16
+  pub two-sixteen : Decided (countAnswer (operateAnswer s values given states p o v)) → v ≡ negsuc 0 → TwoApply s states (num o)
+      → countAnswer (operateAnswer s values given states p o v) .refusal ≡ pos 16
+  two-sixteen (inr (inr e)) x t = e
+  two-sixteen (inr (inl e)) x t = absurd (true-false (t .other-applies) (eleven e .none x (t .other) (t .exists)))
+  two-sixteen (inl e) x t =
+      let k = value (operateAnswer s values given states p o v) e in
+      let r = operated (k .0) (k .1) in
+      let a = r .alone x (t .one) (omega (arith, t .order, t .exists)) (t .one-applies) in
+      let b = r .alone x (t .other) (t .exists) (t .other-applies) in
+      absurd (omega (arith, t .order))
     where
-      past : Made s values given states p o → attemptedOver s (headerOf s) values given states (num p) (num o) ≡ Is j
-          → Comes s (headerOf s) facts verdicts states (num p) (num o) (attemptedOver s (headerOf s) values given states (num p) (num o))
-          → Operated s values given states p o j
-      past e a c = by-cases (attemptedOver s (headerOf s) values given states (num p) (num o)) c a
-        where
-          by-cases : (r : Count) → Comes s (headerOf s) facts verdicts states (num p) (num o) r → r ≡ Is j → Operated s values given states p o j
-          by-cases r (barred b) z = let y : _≡_ {A = ℕ} 0 1 = cc in absurd (omega arith)
-          by-cases r (untrue b t) z = let y : _≡_ {A = ℕ} 0 1 = cc in absurd (omega arith)
-          by-cases r (stuck b t c) z = let y : _≡_ {A = ℕ} 0 1 = cc in absurd (omega arith)
-          by-cases r (went b t i c) z =
-              let y : i ≡ j = cc in
-              let first = chosen-first s (headerOf s) states (num o) j (rw y at c) in
-              let changed = made-after s values given states p o e ∙ outcome-states s (headerOf s) facts verdicts states (num p) (num o) j a in
-              record {
-                persona = b;
-                holds = t;
-                exists = first .exists;
-                applies = first .applies;
-                earlier = first .earlier;
-                each = λ n l. rw changed (fate-after (fate (attempt-ready s values given states p o e .ready) j n l));
-              }
+      value : (a : Count) → countAnswer a .refusal ≡ pos 0 → (n : ℕ) × (a ≡ Is n)
+      value (Is n) z = (n, refl)
+      value (NoCount r) z = absurd (number-some r z)
 
 -- ---- S2
 

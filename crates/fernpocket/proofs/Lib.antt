@@ -1,3 +1,4 @@
 pub mod Covered
 pub mod InNumbers
+pub mod AsBefore
 pub mod Headlines

@@ -4,8 +4,9 @@
 use mathlib.Core.Path.{_≡_}
 use mathlib.Core.Bool.{true, false}
 use mathlib.Core.List.{List, [], _∷_}
+use mathlib.Core.Logic.{_⊎_}
 use Prim.Native.Nat.{ℕ, zero, suc, _≤_, _<_}
-use lib.IntN.{ℤ, pos, natAbs}
+use lib.IntN.{ℤ, pos, negsuc, natAbs}
 use lib.ListN.{length, take, getD}
 use Rattle.signed.specs.Words.{num, eqZ}
 use Rattle.answer.specs.declared.Answer.{Answer}
@@ -13,8 +14,9 @@ use Rattle.answer.specs.Number.{doneAnswer}
 use Rattle.answer.specs.Answers.{statusAnswer, countAnswer, walkAnswer}
 use Rattle.layout.specs.declared.Header.{Header}
 use Rattle.layout.specs.Header.{headerOf}
-use Rattle.layout.specs.Tables.{operation, effect, toOf, outcomesOf}
+use Rattle.layout.specs.Tables.{effect, toOf}
 use Rattle.records.specs.Accept.{checked}
+use Rattle.records.specs.Operations.{outcomes}
 use Rattle.facts.specs.Assembled.{assembled}
 use Rattle.predicate.specs.Values.{truth}
 use Rattle.predicate.specs.Verdicts.{verdictsOf}
@@ -61,13 +63,13 @@ readTo13 s f (suc k) t =
 
 -- a run took the routes of one of the flow's listed paths, which stands in the buffer with 0 past it; the value answered is its terminal, and
 -- the length its length
-pub record RanPath (s values given states : List ℤ) (f : ℤ) (b : List ℕ) : Type 0 where
+pub record RanPath (s values given states : List ℤ) (f : ℤ) (words : List ℤ) (b : List ℕ) : Type 0 where
   pub path : List ℕ
   pub is : PathOf s (headerOf s) (num f) path
   pub listed : Among (paths s (headerOf s) (num f)) path
-  pub left : runPath s values given states f b ≡ laid path b
-  pub value : walkAnswer (runAnswer s values given states f b) .value ≡ pos (terminal s (headerOf s) path)
-  pub long : walkAnswer (runAnswer s values given states f b) .length ≡ pos (length path)
+  pub left : runPath s values given states f words b ≡ laid path b
+  pub value : walkAnswer (runAnswer s values given states f words b) .value ≡ pos (terminal s (headerOf s) path)
+  pub long : walkAnswer (runAnswer s values given states f words b) .length ≡ pos (length path)
 
 -- ---- operations
 
@@ -77,18 +79,37 @@ pub data After (s : List ℤ) (h : Header) (states : List ℤ) (o j n : ℕ) (st
   moved : (e : ℕ) → moves s h states o j n e ≡ true → state ≡ pos (toOf (effect s h e)) → After s h states o j n state
   stayed : ((e : ℕ) → moves s h states o j n e ≡ true → ⊥) → state ≡ getD states n (pos 0) → After s h states o j n state
 
--- an operation went through with outcome j: the mask has the persona, the precondition is true, j is the first applicable outcome in declared
--- order, and exactly its effects that start from the present states are applied
-pub record Operated (s values given states : List ℤ) (p o : ℤ) (j : ℕ) : Type 0 where
+-- 02, CR 1: two outcomes of operation o are applicable
+pub record TwoApply (s states : List ℤ) (o : ℕ) : Type 0 where
+  pub one : ℕ
+  pub other : ℕ
+  pub order : one < other
+  pub exists : other < outcomes s (headerOf s) o
+  pub one-applies : applicable s (headerOf s) states o one ≡ true
+  pub other-applies : applicable s (headerOf s) states o other ≡ true
+
+-- an operation went through with outcome j: the mask has the persona, the precondition is true, j is applicable; it is the wanted outcome,
+-- or with −1 the only one that is applicable; and exactly its effects that start from the present states are applied
+pub record Operated (s values given states : List ℤ) (p o w : ℤ) (j : ℕ) : Type 0 where
   pub persona : allowed s (headerOf s) (num o) (num p) ≡ true
   pub holds :
       truth s (headerOf s) (assembled s (headerOf s) values given) (verdictsOf s (headerOf s) (assembled s (headerOf s) values given))
       (precondition s (headerOf s) (num o)) ≡ true
-  pub exists : j < outcomesOf (operation s (headerOf s) (num o))
+  pub exists : j < outcomes s (headerOf s) (num o)
   pub applies : applicable s (headerOf s) states (num o) j ≡ true
-  pub earlier : (i : ℕ) → i < j → applicable s (headerOf s) states (num o) i ≡ false
+  pub wanted : (w ≡ negsuc 0 → ⊥) → w ≡ pos j
+  pub alone : w ≡ negsuc 0 → (i : ℕ) → i < outcomes s (headerOf s) (num o) → applicable s (headerOf s) states (num o) i ≡ true → i ≡ j
   pub each : (n : ℕ) → n < headerOf s .entities
-      → After s (headerOf s) states (num o) j n (getD (operateStates s values given states p o) n (pos 0))
+      → After s (headerOf s) states (num o) j n (getD (operateStates s values given states p o w) n (pos 0))
+
+-- an operation was refused 11: the wanted outcome is not applicable, or with −1 none is
+pub record NoneApplies (s states : List ℤ) (o w : ℤ) : Type 0 where
+  pub wanted : (w ≡ negsuc 0 → ⊥) → applicable s (headerOf s) states (num o) (num w) ≡ false
+  pub none : w ≡ negsuc 0 → (i : ℕ) → i < outcomes s (headerOf s) (num o) → applicable s (headerOf s) states (num o) i ≡ false
+
+-- the call got as far as the states: it went through, or was refused 11 or 16
+abbrev pub Decided : Answer → Type 0
+Decided a = (a .refusal ≡ pos 0) ⊎ ((a .refusal ≡ pos 11) ⊎ (a .refusal ≡ pos 16))
 
 -- S3a answers yes for entity n in state a, and S4 for its change to b, for persona p: refusal 0 and value 1
 pub record Foreseen (s : List ℤ) (p o : ℤ) (n a b : ℕ) : Type 0 where

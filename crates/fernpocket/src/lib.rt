@@ -63,7 +63,8 @@ pub extern "C" fn fernpocket_verdicts(
     of_status(evaluate::verdicts(sheet, values, given, verdicts))
 }
 
-// One operation by a persona. The number answered is the outcome.
+// One operation by a persona, who wants the outcome of that number, or with −1 the only one that is applicable. The number answered is the
+// outcome.
 #[no_mangle]
 pub extern "C" fn fernpocket_operate(
     sheet: &[i64],
@@ -72,14 +73,15 @@ pub extern "C" fn fernpocket_operate(
     states: &mut [i64],
     persona: i64,
     operation: i64,
+    wanted: i64,
 ) -> Answer
-    ensures { λ a. ⌜ a ≡ countAnswer (operateAnswer (now (sheet .entry)) (now (values .entry)) (now (given .entry)) (now (states .entry)) persona operation) ⌝ }
-    ensures { λ _. ⌜ now (states .exit) ≡ operateStates (now (sheet .entry)) (now (values .entry)) (now (given .entry)) (now (states .entry)) persona operation ⌝ }
+    ensures { λ a. ⌜ a ≡ countAnswer (operateAnswer (now (sheet .entry)) (now (values .entry)) (now (given .entry)) (now (states .entry)) persona operation wanted) ⌝ }
+    ensures { λ _. ⌜ now (states .exit) ≡ operateStates (now (sheet .entry)) (now (values .entry)) (now (given .entry)) (now (states .entry)) persona operation wanted ⌝ }
 {
-    of_count(evaluate::operate(sheet, values, given, states, persona, operation))
+    of_count(evaluate::operate(sheet, values, given, states, persona, operation, wanted))
 }
 
-// One run of a flow. The numbers answered are the terminal and the path's length.
+// One run of a flow, with a wanted word for each of its steps. The numbers answered are the terminal and the path's length.
 #[no_mangle]
 pub extern "C" fn fernpocket_run(
     sheet: &[i64],
@@ -87,13 +89,14 @@ pub extern "C" fn fernpocket_run(
     given: &[i64],
     states: &mut [i64],
     flow: i64,
+    wanted: &[i64],
     path: &mut [u16],
 ) -> Answer
-    ensures { λ a. ⌜ a ≡ walkAnswer (runAnswer (now (sheet .entry)) (now (values .entry)) (now (given .entry)) (now (states .entry)) flow (now (path .entry))) ⌝ }
-    ensures { λ _. ⌜ now (path .exit) ≡ runPath (now (sheet .entry)) (now (values .entry)) (now (given .entry)) (now (states .entry)) flow (now (path .entry)) ⌝ }
-    ensures { λ _. ⌜ now (states .exit) ≡ runStates (now (sheet .entry)) (now (values .entry)) (now (given .entry)) (now (states .entry)) flow (now (path .entry)) ⌝ }
+    ensures { λ a. ⌜ a ≡ walkAnswer (runAnswer (now (sheet .entry)) (now (values .entry)) (now (given .entry)) (now (states .entry)) flow (now (wanted .entry)) (now (path .entry))) ⌝ }
+    ensures { λ _. ⌜ now (path .exit) ≡ runPath (now (sheet .entry)) (now (values .entry)) (now (given .entry)) (now (states .entry)) flow (now (wanted .entry)) (now (path .entry)) ⌝ }
+    ensures { λ _. ⌜ now (states .exit) ≡ runStates (now (sheet .entry)) (now (values .entry)) (now (given .entry)) (now (states .entry)) flow (now (wanted .entry)) (now (path .entry)) ⌝ }
 {
-    of_walk(flows::run(sheet, values, given, states, flow, path))
+    of_walk(flows::run(sheet, values, given, states, flow, wanted, path))
 }
 
 // S6: path 0 of a flow.

@@ -6,8 +6,7 @@ use mathlib.Core.List.{List}
 use Prim.Native.Nat.{ℕ}
 use lib.IntN.{ℤ}
 use lib.ListN.{length}
-use lib.Dec.{leb}
-use borrow.Author.Tests.{leb-true, ltb-true}
+use borrow.Author.Tests.{leb-true, ltb-true, eqb-true}
 use Rattle.tables.proofs.Bools.{and-left, and-right, tests}
 use Rattle.signed.specs.Words.{num}
 use Rattle.answer.specs.declared.Walk.the-variants.{Refused as NoWalk}
@@ -21,6 +20,7 @@ use Rattle.operation.proofs.LentStates.{states-in}
 use Rattle.walks.specs.Paths.{stepsOf}
 use Rattle.walks.specs.Inner.{Lent}
 use Rattle.listing.proofs.Answers.{first-small, next-small}
+use Rattle.run.specs.Runs.{goodWords}
 use Rattle.run.specs.Inner.{Runnable}
 use Rattle.run.proofs.RunPaths.{run-small}
 use Rattle.ladder.specs.declared.Climbed.{Climbed}
@@ -28,25 +28,30 @@ use Rattle.ladder.specs.declared.Climbed.the-variants.{At}
 use Rattle.ladder.specs.Ladder.{opened, exists, matches, factsLent}
 use Rattle.ladder.proofs.ClimbLaws.{passed, climbed-at, opened-at}
 use Rattle.ladder.proofs.Small.{rungs-small, call-small}
-use Rattle.calls.specs.Flows.{pathLent, flowRungs, flowClimb, firstAnswer, nextAnswer, runRungs, runClimb, runAnswer}
+use Rattle.calls.specs.Flows.{stepsOr, pathLent, wantedLent, flowRungs, flowClimb, firstAnswer, nextAnswer, runRungs, runClimb, runAnswer}
 use Rattle.evaluate.proofs.EvaluateLaws.{known-in, facts-small, states-small}
 use Rattle.flows.specs.Going.{LentRun}
 
--- ---- the path buffer
+-- ---- slices sized by a flow's steps
 
-pub path-judged : (s : List ℤ) (h : Header) (f : ℤ) (room : ℕ) → exists f (h .flows) ≡ true → pathLent s h f room ≡ leb (stepsOf s h (num f)) room
-unfolding pathLent
-path-judged s h f room e = rw (e, pathLent)
+pub steps-judged : (s : List ℤ) (h : Header) (f : ℤ) (n : ℕ) → exists f (h .flows) ≡ true → stepsOr s h f n ≡ stepsOf s h (num f)
+unfolding stepsOr
+steps-judged s h f n e = rw (e, stepsOr)
 
-pub path-unjudged : (s : List ℤ) (h : Header) (f : ℤ) (room : ℕ) → exists f (h .flows) ≡ false → pathLent s h f room ≡ true
-unfolding pathLent
-path-unjudged s h f room e = rw (e, pathLent)
+pub steps-unjudged : (s : List ℤ) (h : Header) (f : ℤ) (n : ℕ) → exists f (h .flows) ≡ false → stepsOr s h f n ≡ n
+unfolding stepsOr
+steps-unjudged s h f n e = rw (e, stepsOr)
+
+-- a word for each step
+pub a-word-each : (s : List ℤ) (h : Header) (f : ℤ) (words : List ℤ) → exists f (h .flows) ≡ true → wantedLent s h f words ≡ true
+    → length words ≡ stepsOf s h (num f)
+a-word-each s h f words e p = eqb-true _ _ p ∙ steps-judged s h f (length words) e
 
 -- a flow that exists, with room for its paths
 lent : {s : List ℤ} {h : Header} (f : ℤ) (b : List ℕ) → Accepted s h → exists f (h .flows) ≡ true → pathLent s h f (length b) ≡ true
     → Lent s h (num f) b
 lent {s} {h} f b a e p =
-    record { sheet = a; flow = ltb-true _ _ e; room = leb-true _ _ (sym (path-judged s h f (length b) e) ∙ p) }
+    record { sheet = a; flow = ltb-true _ _ e; room = rw (← steps-judged s h f (length b) e) (leb-true _ _ p) }
 
 -- ---- what the work asks, where nothing is refused
 
@@ -58,23 +63,28 @@ flow-lent s f b e q =
     lent f b (opened-at s refl (w .sheet) .sheet) (g .numbers) (g .lengths)
 
 -- a run, of the ladder
-pub going : (s values given states : List ℤ) (f : ℤ) (b : List ℕ) {h : Header} {x : Climbed} → x ≡ runClimb s values given states f (length b)
-    → x ≡ At h
-    → LentRun s h values given states (num f) b
+pub going : (s values given states : List ℤ) (f : ℤ) (words : List ℤ) (b : List ℕ) {h : Header} {x : Climbed}
+    → x ≡ runClimb s values given states f words (length b) → x ≡ At h → LentRun s h values given states (num f) words b
 unfolding runRungs
-going s values given states f b {h} e q =
-    let w = climbed-at (opened s) (runRungs s values given states f (length b)) e q in
+going s values given states f words b {h} e q =
+    let w = climbed-at (opened s) (runRungs s values given states f words (length b)) e q in
     let g = passed (w .clear) in
     let a = opened-at s refl (w .sheet) .sheet in
-    let z = simp tests at (and-left (factsLent h values given && matches states (h .entities)) (pathLent s h f (length b)) (g .lengths)) in
+    let k = and-left (exists f (h .flows)) (goodWords s h (num f) words) (g .numbers) in
+    let y = and-left (factsLent h values given && matches states (h .entities) && wantedLent s h f words) (pathLent s h f (length b)) (g .lengths) in
+    let z = simp tests at (and-left (factsLent h values given && matches states (h .entities)) (wantedLent s h f words) y) in
     record {
       known = record { sheet = a; all-values = z .0 .0; all-given = z .0 .1; faultless = g .facts };
       valid = states-in s h states (z .1) (g .states);
-      lent = lent f b a (g .numbers) (and-right (factsLent h values given && matches states (h .entities)) (pathLent s h f (length b)) (g .lengths));
+      lent =
+          lent f b a k
+          (and-right (factsLent h values given && matches states (h .entities) && wantedLent s h f words) (pathLent s h f (length b)) (g .lengths));
+      wanted = a-word-each s h f words k (and-right (factsLent h values given && matches states (h .entities)) (wantedLent s h f words) y);
     }
 
 -- and of the work below it
-pub runnable : {s : List ℤ} {h : Header} {values given states facts verdicts : List ℤ} {f : ℕ} {b : List ℕ} → LentRun s h values given states f b
+pub runnable : {s : List ℤ} {h : Header} {values given states facts verdicts : List ℤ} {f : ℕ} {words : List ℤ} {b : List ℕ}
+    → LentRun s h values given states f words b
     → facts ≡ assembled s h values given → verdicts ≡ verdictsOf s h (assembled s h values given) → Runnable s h facts verdicts states f b
 runnable {s} {h} {values} {given} g e v =
     record {
@@ -99,9 +109,9 @@ module _ (s : List ℤ) (f : ℤ) (b : List ℕ) where
       call-small SmallWalk NoWalk _ (λ r p. p) s (flowRungs s f (length b)) (λ h e. rungs-small _ _ _ _ tt tt)
       (λ h e. let k = flow-lent s f b refl e in next-small (k .sheet) (k .flow) b)
 
-pub run-call-small : (s values given states : List ℤ) (f : ℤ) (b : List ℕ) → SmallWalk (runAnswer s values given states f b)
+pub run-call-small : (s values given states : List ℤ) (f : ℤ) (words : List ℤ) (b : List ℕ) → SmallWalk (runAnswer s values given states f words b)
 unfolding runRungs
-run-call-small s values given states f b =
-    call-small SmallWalk NoWalk _ (λ r p. p) s (runRungs s values given states f (length b))
+run-call-small s values given states f words b =
+    call-small SmallWalk NoWalk _ (λ r p. p) s (runRungs s values given states f words (length b))
     (λ h e. rungs-small _ _ _ _ (facts-small s values given h e) (states-small s values given states h e))
-    (λ h e. run-small (runnable (going s values given states f b refl e) refl refl))
+    (λ h e. run-small (runnable (going s values given states f words b refl e) refl refl) words)

@@ -21,7 +21,7 @@ use Rattle.walks.specs.Inner.{PathList, Lent}
 use Rattle.listing.specs.Inner.{called, calledOn, Listed, readOff}
 use Rattle.listing.specs.Lists.{Call, First, Next, State, nexts, count}
 use Rattle.listing.proofs.Listing.{calls-listed, listing, held-length, listing-whole, listing-paths}
-use Rattle.run.specs.Runs.{ran, ranPath}
+use Rattle.run.specs.Runs.{wantedAt, ran, ranPath}
 use Rattle.run.proofs.RunPaths.{run-listed}
 use Rattle.ladder.specs.declared.Climbed.the-variants.{At}
 use Rattle.ladder.specs.Ladder.{opened}
@@ -29,7 +29,7 @@ use Rattle.ladder.proofs.ClimbLaws.{all-passed, opened-at, climbed-at, climbs, 
 use Rattle.calls.specs.Flows.{flowRungs, runRungs, runClimb, runAnswer}
 use Rattle.calls.specs.Lists.{publicCall, publicCalls, ListedNumbers}
 use Rattle.calls.specs.Inner.{publicReadOff, Listable, TookPath}
-use Rattle.flows.proofs.FlowCallLaws.{path-judged, runnable, going}
+use Rattle.flows.proofs.FlowCallLaws.{steps-judged, runnable, going}
 
 -- ---- lists of calls
 
@@ -43,7 +43,7 @@ module _ {s : List ℤ} {h : Header} {f : ℤ} {b : List ℕ} (u : Listable s h 
   passes c e =
       all-passed
       record {
-        lengths = path-judged s h f (length c) (u .flow) ∙ le-leb (stepsOf s h (num f)) (length c) (omega (arith, u .room, e));
+        lengths = rw (steps-judged s h f (length c) (u .flow)) (le-leb (stepsOf s h (num f)) (length c) (omega (arith, u .room, e)));
         numbers = u .flow;
         facts = refl;
         states = refl;
@@ -119,25 +119,25 @@ module _ {s : List ℤ} {h : Header} {f : ℤ} {b : List ℕ} (u : Listable s h 
 
 -- ---- runs
 
--- any run that is not refused, whatever its facts and states, takes one of the listed paths
-pub run-takes-path : (s values given states : List ℤ) (f : ℤ) (b : List ℕ) (t n : ℕ) → runAnswer s values given states f b ≡ Walked t n
-    → TookPath s values given states f b
+-- any run that is not refused, whatever its facts and states and whatever its steps want, takes one of the listed paths
+pub run-takes-path : (s values given states : List ℤ) (f : ℤ) (words : List ℤ) (b : List ℕ) (t n : ℕ)
+    → runAnswer s values given states f words b ≡ Walked t n → TookPath s values given states f words b
 unfolding ranPath
-run-takes-path s values given states f b t n =
-    by-all (λ (a : Walk). a ≡ Walked t n → TookPath s values given states f b) (runClimb s values given states f (length b)) NoWalk _
+run-takes-path s values given states f words b t n =
+    by-all (λ (a : Walk). a ≡ Walked t n → TookPath s values given states f words b) (runClimb s values given states f words (length b)) NoWalk _
     (λ r p e. let z : _≡_ {A = ℕ} 0 1 = cc in absurd (omega arith))
     (λ h p e. took h p)
   where
-    took : (h : Header) → runClimb s values given states f (length b) ≡ At h → TookPath s values given states f b
+    took : (h : Header) → runClimb s values given states f words (length b) ≡ At h → TookPath s values given states f words b
     took h p =
-        let w = climbed-at (opened s) (runRungs s values given states f (length b)) refl p in
+        let w = climbed-at (opened s) (runRungs s values given states f words (length b)) refl p in
         let facts = assembled s h values given in
-        let r = run-listed (runnable (going s values given states f b refl p) refl refl) in
+        let r = run-listed (runnable (going s values given states f words b refl p) refl refl) words in
         record {
           header = h;
           sheet = w .sheet;
-          path = ran s h facts (verdictsOf s h facts) states (num f) .path;
+          path = ran s h facts (verdictsOf s h facts) states (num f) (wantedAt s h (num f) words) .path;
           listed = r .listed;
-          left = climbs (runRungs s values given states f (length b)) _ _ (w .sheet) (w .clear);
-          answers = climbs (runRungs s values given states f (length b)) _ _ (w .sheet) (w .clear) ∙ r .answers;
+          left = climbs (runRungs s values given states f words (length b)) _ _ (w .sheet) (w .clear);
+          answers = climbs (runRungs s values given states f words (length b)) _ _ (w .sheet) (w .clear) ∙ r .answers;
         }

@@ -1,8 +1,12 @@
 // The calls on flows, for any input: first, next and run climb the ladder of refusals, then do their work.
 ghost use mathlib.Core.Path.{_≡_};
 ghost use lib.ListN.{length};
+ghost use mathlib.Core.Bool.{true, _&&_};
+ghost use Rattle.signed.specs.Words.{num};
 ghost use Rattle.records.specs.Accepted.{Accepted};
-ghost use Rattle.calls.specs.Flows.{pathLent, flowClimb, firstAnswer, firstPath, nextAnswer, nextPath};
+ghost use Rattle.run.specs.Runs.{goodWords};
+ghost use Rattle.ladder.specs.Ladder.{exists};
+ghost use Rattle.calls.specs.Flows.{stepsOr, wantedLent, flowClimb, firstAnswer, firstPath, nextAnswer, nextPath};
 ghost use Rattle.calls.specs.Flows.{ranWalkOver, ranPathOver, ranStatesOver, runClimb, runAnswer, runPath, runStates};
 ghost use Rattle.flows.specs.Going.{LentRun};
 use answer::Walk;
@@ -17,18 +21,19 @@ use ladder::then_facts;
 use ladder::then_states;
 use layout::Flow;
 use layout::Header;
+use run::good_words;
 use signed::num;
 use walks::steps;
 
-// Whether a path buffer is long enough. Where the flow does not exist, it is not judged.
-fn path_lent(s: &[i64], h: Header, flow: i64, room: usize) -> bool
+// How many steps a flow has. Where it does not exist, slices sized by its steps are not judged: the lent length is right.
+fn steps_or(s: &[i64], h: Header, flow: i64, lent: usize) -> usize
     requires { ⌜ Accepted (now s) h ⌝ }
-    ensures { λ b. ⌜ b ≡ pathLent (now (s .entry)) h flow room ⌝ }
+    ensures { λ r. ⌜ r ≡ stepsOr (now (s .entry)) h flow lent ⌝ }
 {
     if exists(flow, h.flows) {
-        steps(s, h, Flow(num(flow))) <= room
+        steps(s, h, Flow(num(flow)))
     } else {
-        true
+        lent
     }
 }
 
@@ -39,7 +44,7 @@ fn climb_flow(s: &[i64], flow: i64, room: usize) -> Climbed
     match open_sheet(s) {
         Climbed::Stopped(r) => Climbed::Stopped(r),
         Climbed::At(h) => {
-            let long = path_lent(s, h, flow, room);
+            let long = steps_or(s, h, flow, room) <= room;
             reached(judge_call(long, exists(flow, h.flows)), h)
         }
     }
@@ -77,16 +82,17 @@ fn go_on(
     verdicts: &mut [i64],
     states: &mut [i64],
     flow: Flow,
+    wanted: &[i64],
     path: &mut [u16],
 ) -> Walk
-    requires { ⌜ LentRun (now s) h (now values) (now given) (now states) (flow .0) (now path) ⌝ }
+    requires { ⌜ LentRun (now s) h (now values) (now given) (now states) (flow .0) (now wanted) (now path) ⌝ }
     requires { ⌜ (length (now facts) ≡ h .facts) × (length (now verdicts) ≡ h .rules) ⌝ }
-    ensures { λ r. ⌜ r ≡ ranWalkOver (now (s .entry)) h (now (values .entry)) (now (given .entry)) (now (states .entry)) (flow .0) ⌝ }
-    ensures { λ r. ⌜ now (path .exit) ≡ ranPathOver (now (s .entry)) h (now (values .entry)) (now (given .entry)) (now (states .entry)) (flow .0) (now (path .entry)) ⌝ }
-    ensures { λ r. ⌜ now (states .exit) ≡ ranStatesOver (now (s .entry)) h (now (values .entry)) (now (given .entry)) (now (states .entry)) (flow .0) ⌝ }
+    ensures { λ r. ⌜ r ≡ ranWalkOver (now (s .entry)) h (now (values .entry)) (now (given .entry)) (now (states .entry)) (flow .0) (now (wanted .entry)) ⌝ }
+    ensures { λ r. ⌜ now (path .exit) ≡ ranPathOver (now (s .entry)) h (now (values .entry)) (now (given .entry)) (now (states .entry)) (flow .0) (now (wanted .entry)) (now (path .entry)) ⌝ }
+    ensures { λ r. ⌜ now (states .exit) ≡ ranStatesOver (now (s .entry)) h (now (values .entry)) (now (given .entry)) (now (states .entry)) (flow .0) (now (wanted .entry)) ⌝ }
 {
     settle(s, h, values, given, facts, verdicts);
-    run::run(s, h, facts, verdicts, states, flow, path)
+    run::run(s, h, facts, verdicts, states, flow, wanted, path)
 }
 
 fn go(
@@ -96,12 +102,13 @@ fn go(
     given: &[i64],
     states: &mut [i64],
     flow: Flow,
+    wanted: &[i64],
     path: &mut [u16],
 ) -> Walk
-    requires { ⌜ LentRun (now s) h (now values) (now given) (now states) (flow .0) (now path) ⌝ }
-    ensures { λ r. ⌜ r ≡ ranWalkOver (now (s .entry)) h (now (values .entry)) (now (given .entry)) (now (states .entry)) (flow .0) ⌝ }
-    ensures { λ r. ⌜ now (path .exit) ≡ ranPathOver (now (s .entry)) h (now (values .entry)) (now (given .entry)) (now (states .entry)) (flow .0) (now (path .entry)) ⌝ }
-    ensures { λ r. ⌜ now (states .exit) ≡ ranStatesOver (now (s .entry)) h (now (values .entry)) (now (given .entry)) (now (states .entry)) (flow .0) ⌝ }
+    requires { ⌜ LentRun (now s) h (now values) (now given) (now states) (flow .0) (now wanted) (now path) ⌝ }
+    ensures { λ r. ⌜ r ≡ ranWalkOver (now (s .entry)) h (now (values .entry)) (now (given .entry)) (now (states .entry)) (flow .0) (now (wanted .entry)) ⌝ }
+    ensures { λ r. ⌜ now (path .exit) ≡ ranPathOver (now (s .entry)) h (now (values .entry)) (now (given .entry)) (now (states .entry)) (flow .0) (now (wanted .entry)) (now (path .entry)) ⌝ }
+    ensures { λ r. ⌜ now (states .exit) ≡ ranStatesOver (now (s .entry)) h (now (values .entry)) (now (given .entry)) (now (states .entry)) (flow .0) (now (wanted .entry)) ⌝ }
 {
     let mut facts = [0i64; Header::FACTS];
     let mut verdicts = [0i64; Header::RULES];
@@ -116,8 +123,24 @@ fn go(
         &mut verdicts[..m],
         states,
         flow,
+        wanted,
         path,
     )
+}
+
+// Whether the flow exists, and each of its steps may want what its word says. Asked only where the lengths are right.
+fn run_named(s: &[i64], h: Header, flow: i64, wanted: &[i64], long: bool) -> bool
+    requires { ⌜ Accepted (now s) h ⌝ }
+    requires { ⌜ (long ≡ true → wantedLent (now s) h flow (now wanted) ≡ true) ⌝ }
+    ensures { λ b. ⌜ b ≡ (long && (exists flow (h .flows) && goodWords (now (s .entry)) h (num flow) (now (wanted .entry)))) ⌝ }
+{
+    if !long {
+        return false;
+    }
+    if !exists(flow, h.flows) {
+        return false;
+    }
+    good_words(s, h, Flow(num(flow)), wanted)
 }
 
 // The rungs of a run: 1 to 8.
@@ -127,38 +150,43 @@ fn climb_run(
     given: &[i64],
     states: &[i64],
     flow: i64,
+    wanted: &[i64],
     room: usize,
 ) -> Climbed
-    ensures { λ c. ⌜ c ≡ runClimb (now (s .entry)) (now (values .entry)) (now (given .entry)) (now (states .entry)) flow room ⌝ }
+    ensures { λ c. ⌜ c ≡ runClimb (now (s .entry)) (now (values .entry)) (now (given .entry)) (now (states .entry)) flow (now (wanted .entry)) room ⌝ }
 {
     match open_sheet(s) {
         Climbed::Stopped(r) => Climbed::Stopped(r),
         Climbed::At(h) => {
+            let n = wanted.len();
             let long = facts_lent(h, values, given)
                 & (states.len() == h.entities)
-                & path_lent(s, h, flow, room);
-            let t = judge_call(long, exists(flow, h.flows));
+                & (n == steps_or(s, h, flow, n))
+                & (steps_or(s, h, flow, room) <= room);
+            let known = run_named(s, h, flow, wanted, long);
+            let t = judge_call(long, known);
             let u = then_facts(t, s, h, values, given);
             reached(then_states(u, s, h, states), h)
         }
     }
 }
 
-// One run of a flow: its terminal and the path that it took.
+// One run of a flow, with what each of its steps wants: its terminal and the path that it took.
 pub fn run(
     s: &[i64],
     values: &[i64],
     given: &[i64],
     states: &mut [i64],
     flow: i64,
+    wanted: &[i64],
     path: &mut [u16],
 ) -> Walk
-    ensures { λ r. ⌜ r ≡ runAnswer (now (s .entry)) (now (values .entry)) (now (given .entry)) (now (states .entry)) flow (now (path .entry)) ⌝ }
-    ensures { λ r. ⌜ now (path .exit) ≡ runPath (now (s .entry)) (now (values .entry)) (now (given .entry)) (now (states .entry)) flow (now (path .entry)) ⌝ }
-    ensures { λ r. ⌜ now (states .exit) ≡ runStates (now (s .entry)) (now (values .entry)) (now (given .entry)) (now (states .entry)) flow (now (path .entry)) ⌝ }
+    ensures { λ r. ⌜ r ≡ runAnswer (now (s .entry)) (now (values .entry)) (now (given .entry)) (now (states .entry)) flow (now (wanted .entry)) (now (path .entry)) ⌝ }
+    ensures { λ r. ⌜ now (path .exit) ≡ runPath (now (s .entry)) (now (values .entry)) (now (given .entry)) (now (states .entry)) flow (now (wanted .entry)) (now (path .entry)) ⌝ }
+    ensures { λ r. ⌜ now (states .exit) ≡ runStates (now (s .entry)) (now (values .entry)) (now (given .entry)) (now (states .entry)) flow (now (wanted .entry)) (now (path .entry)) ⌝ }
 {
-    match climb_run(s, values, given, states, flow, path.len()) {
+    match climb_run(s, values, given, states, flow, wanted, path.len()) {
         Climbed::Stopped(r) => Walk::Refused(r),
-        Climbed::At(h) => go(s, h, values, given, states, Flow(num(flow)), path),
+        Climbed::At(h) => go(s, h, values, given, states, Flow(num(flow)), wanted, path),
     }
 }

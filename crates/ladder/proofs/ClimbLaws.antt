@@ -1,7 +1,7 @@
 -- The laws of the ladder's combinators, once for every call.
 -- Assumes nothing.
 use mathlib.Core.Path.{_≡_, refl, sym, ap, subst, _∙_}
-use mathlib.Core.Bool.{Bool, true, false}
+use mathlib.Core.Bool.{Bool, true, false, _&&_}
 use mathlib.Core.List.{List}
 use Prim.Native.Nat.{ℕ}
 use lib.IntN.{ℤ}
@@ -76,6 +76,12 @@ all-passed p = rw (p .lengths, p .numbers, p .facts, p .states, then, unless)
 pub no-number : {n : Bool} (f t : Status) → n ≡ false → rungs true n f t ≡ Refused Missing
 unfolding then unless
 no-number f t p = rw (p, then, unless)
+
+-- numbers may be asked for only where the lengths are right
+pub asked-after : (l n : Bool) → then (unless l Length) (unless (l && n) Missing) ≡ then (unless l Length) (unless n Missing)
+unfolding then unless
+asked-after true n = refl
+asked-after false n = refl
 
 -- the rungs so far, as the code holds them
 pub called : {l n : Bool} {t : Status} → t ≡ then (unless l Length) (unless n Missing) → t ≡ Done → (l ≡ true) × (n ≡ true)

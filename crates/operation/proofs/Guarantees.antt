@@ -1,4 +1,4 @@
--- What an operation does on an accepted sheet: which outcome it chooses, which states change and how, and which stay.
+-- What an operation does on an accepted sheet: what an applicable outcome is, which states change and how, and which stay.
 -- Assumes nothing.
 use mathlib.Core.Path.{_≡_, refl, sym, _∙_}
 use mathlib.Core.Bool.{true, false, not}
@@ -8,83 +8,56 @@ use Prim.Native.Nat.{ℕ, _<_}
 use lib.IntN.{ℤ, pos}
 use lib.ListN.{getD}
 use native.Mathlib.Omega.{arith}
-use native.Mathlib.Decide.{decLt}
-use borrow.Author.Tests.{lt-ltb, le-ltb, not-true, not-false}
 use Rattle.signed.proofs.Numbers.{num-of, num-pos}
 use Rattle.tables.proofs.Bools.{tests, bool-cases, true-false}
 use Rattle.tables.proofs.Scans.{all-at, all-of, any-at, any-of}
-use Rattle.tables.proofs.Scanned.{Scanned, first-scan}
 use Rattle.layout.specs.declared.Header.{Header}
 use Rattle.layout.specs.Tables.{operation, effect}
 use Rattle.records.specs.Entities.{states as stateCount}
 use Rattle.records.specs.Operations.{outcome}
 use Rattle.records.proofs.OperationLaws.{Of, Declared, inside, effect-ok, entity-ok}
 use Rattle.operation.specs.declared.Choice.{Choice}
-use Rattle.operation.specs.declared.Choice.the-variants.{Outcome, Nothing}
+use Rattle.operation.specs.declared.Choice.the-variants.{Outcome, Nothing, Several}
 use Rattle.operation.specs.States.{present}
 use Rattle.operation.specs.Inner.{StatesIn, after, performed}
-use Rattle.operation.specs.Outcomes.{ofOutcome, moves, matched, unblocked, applicable, firstApplicable, chosen}
+use Rattle.operation.specs.declared.Wanted.{Wanted}
+use Rattle.operation.specs.Outcomes.{ofOutcome, moves, matched, unblocked, applicable, chosen}
 use Rattle.operation.specs.Changes.{newState, applied}
 use Rattle.operation.specs.Ready.{Ready}
+use Rattle.operation.proofs.Choices.{chosen-applies}
 use Rattle.operation.proofs.Movers.{Moves, moves-true, true-moves, stays, goes, length-applied, applied-at}
 
--- ---- the choice
+-- ---- the states, choice by choice
 
--- j is the first applicable outcome of operation o
-pub record IsFirst (s : List ℤ) (h : Header) (states : List ℤ) (o j : ℕ) : Type 0 where
-  pub exists : j < operation s h o .w4
-  pub applies : applicable s h states o j ≡ true
-  pub earlier : (i : ℕ) → i < j → applicable s h states o i ≡ false
-
-module _ (s : List ℤ) (h : Header) (states : List ℤ) (o : ℕ) where
-  scanned : Scanned (λ j. not (applicable s h states o j)) 0 (operation s h o .w4) (firstApplicable s h states o)
-  unfolding firstApplicable
-  scanned = first-scan (λ j. not (applicable s h states o j)) (operation s h o .w4)
-
-  -- the chosen outcome is applicable, and no earlier one is
-  pub chosen-first : (j : ℕ) → chosen s h states o ≡ Outcome j → IsFirst s h states o j
+module _ (s : List ℤ) (h : Header) (states : List ℤ) (o : ℕ) (w : Wanted) where
+  -- a chosen outcome is one of the operation's
+  pub chosen-exists : (j : ℕ) → chosen s h states o w ≡ Outcome j → j < operation s h o .w4
   unfolding chosen
-  chosen-first j p = go (decLt (firstApplicable s h states o) (operation s h o .w4))
-    where
-      go : Dec (firstApplicable s h states o < operation s h o .w4) → IsFirst s h states o j
-      go (yes l) =
-          let e : firstApplicable s h states o ≡ j = cc (rw (lt-ltb (firstApplicable s h states o) (operation s h o .w4) l) at p) in
-          rw (← e)
-          (record {
-            exists = l;
-            applies = not-false _ (scanned .fails l);
-            earlier = λ i m. not-true _ (scanned .passed i (omega arith) m);
-          })
-      go (no n) =
-          let z : _≡_ {A = ℕ} 0 1 = cc (rw (le-ltb (firstApplicable s h states o) (operation s h o .w4) (omega arith)) at p) in absurd (omega arith)
+  chosen-exists j p = chosen-applies (applicable s h states o) (operation s h o .w4) w j p .0
 
-  -- where nothing is chosen, no outcome is applicable
-  pub nothing-applies : chosen s h states o ≡ Nothing → (j : ℕ) → j < operation s h o .w4 → applicable s h states o j ≡ false
-  unfolding chosen
-  nothing-applies p j l = go (decLt (firstApplicable s h states o) (operation s h o .w4))
-    where
-      go : Dec (firstApplicable s h states o < operation s h o .w4) → applicable s h states o j ≡ false
-      go (yes m) = let z : _≡_ {A = ℕ} 0 1 = cc (rw (lt-ltb (firstApplicable s h states o) (operation s h o .w4) m) at p) in absurd (omega arith)
-      go (no n) = not-true _ (scanned .passed j (omega arith) (omega arith))
-
-  -- ---- the states, choice by choice
-
-  pub performed-by : (j : ℕ) → chosen s h states o ≡ Outcome j → performed s h states o ≡ applied s h states o j
+  pub performed-by : (j : ℕ) → chosen s h states o w ≡ Outcome j → performed s h states o w ≡ applied s h states o j
   unfolding performed after
   performed-by j p = rw p
 
   -- where nothing is chosen, nothing changes
-  pub performed-not : chosen s h states o ≡ Nothing → performed s h states o ≡ states
+  pub performed-none : chosen s h states o w ≡ Nothing → performed s h states o w ≡ states
   unfolding performed after
-  performed-not p = rw p
+  performed-none p = rw p
+
+  pub performed-several : chosen s h states o w ≡ Several → performed s h states o w ≡ states
+  unfolding performed after
+  performed-several p = rw p
 
   -- the code's choice r is the definition's, and the states that it leaves are those of the choice
-  pub with-outcome : (r : Choice) (j : ℕ) (end : List ℤ) → r ≡ Outcome j → r ≡ chosen s h states o → end ≡ applied s h states o j
-      → (Outcome j ≡ chosen s h states o) × (end ≡ performed s h states o)
+  pub with-outcome : (r : Choice) (j : ℕ) (end : List ℤ) → r ≡ Outcome j → r ≡ chosen s h states o w → end ≡ applied s h states o j
+      → (Outcome j ≡ chosen s h states o w) × (end ≡ performed s h states o w)
   with-outcome r j end p q e = (sym p ∙ q, e ∙ sym (performed-by j (sym q ∙ p)))
 
-  pub without-outcome : (r : Choice) → r ≡ Nothing → r ≡ chosen s h states o → (r ≡ chosen s h states o) × (states ≡ performed s h states o)
-  without-outcome r p q = (q, sym (performed-not (sym q ∙ p)))
+  pub with-none : (r : Choice) → r ≡ Nothing → r ≡ chosen s h states o w → (r ≡ chosen s h states o w) × (states ≡ performed s h states o w)
+  with-none r p q = (q, sym (performed-none (sym q ∙ p)))
+
+  pub with-several : (r : Choice) → r ≡ Several → r ≡ chosen s h states o w → (r ≡ chosen s h states o w) × (states ≡ performed s h states o w)
+  with-several r p q = (q, sym (performed-several (sym q ∙ p)))
 
 -- ---- what applicable means
 
@@ -135,12 +108,12 @@ pub data Fate (s : List ℤ) (h : Header) (states : List ℤ) (o j n : ℕ) (sta
   unmoved : ((e : ℕ) → Moves s h states o j n e → ⊥) → state ≡ getD states n (pos 0) → Fate s h states o j n state
 
 -- effect e of the chosen outcome j moves entity n from its state to another, along a declared transition
-pub record Changed (s : List ℤ) (h : Header) (states : List ℤ) (o j n e : ℕ) : Type 0 where
-  pub chosen : chosen s h states o ≡ Outcome j
+pub record Changed (s : List ℤ) (h : Header) (states : List ℤ) (o : ℕ) (w : Wanted) (j n e : ℕ) : Type 0 where
+  pub chosen : chosen s h states o w ≡ Outcome j
   pub moves : Moves s h states o j n e
   pub transition : Declared s h (effect s h e)
   pub old : getD states n (pos 0) ≡ pos (effect s h e .w1)
-  pub new : getD (performed s h states o) n (pos 0) ≡ pos (effect s h e .w2)
+  pub new : getD (performed s h states o w) n (pos 0) ≡ pos (effect s h e .w2)
 
 module _ {s : List ℤ} {h : Header} {states : List ℤ} {o : ℕ} (w : Ready s h states o) where
   module _ (j : ℕ) where
@@ -168,33 +141,36 @@ module _ {s : List ℤ} {h : Header} {states : List ℤ} {o : ℕ} (w : Ready s 
             rw (q, num-of (effect s h e .w2)) (rw (m .entity) at (effect-ok (w .accepted) o (w .exists) e (m .of) .change .to))
         go n l (unmoved f q) = rw q (w .lent .each n l)
 
-  pub performed-in : StatesIn s h (performed s h states o)
-  performed-in = go (chosen s h states o) refl
-    where
-      go : (r : Choice) → chosen s h states o ≡ r → StatesIn s h (performed s h states o)
-      go (Outcome j) p = rw (performed-by s h states o j p) (applied-in j)
-      go Nothing p = rw (performed-not s h states o p) (w .lent)
+  module _ (wanted : Wanted) where
+    pub performed-in : StatesIn s h (performed s h states o wanted)
+    performed-in = go (chosen s h states o wanted) refl
+      where
+        go : (r : Choice) → chosen s h states o wanted ≡ r → StatesIn s h (performed s h states o wanted)
+        go (Outcome j) p = rw (performed-by s h states o wanted j p) (applied-in j)
+        go Nothing p = rw (performed-none s h states o wanted p) (w .lent)
+        go Several p = rw (performed-several s h states o wanted p) (w .lent)
 
-  -- a state changes only along a declared transition that an effect of the chosen outcome names and that starts from the present state
-  pub changes : (n : ℕ) → n < h .entities → (getD (performed s h states o) n (pos 0) ≡ getD states n (pos 0) → ⊥)
-      → (j : ℕ) × (e : ℕ) × Changed s h states o j n e
-  changes n l f = go (chosen s h states o) refl
-    where
-      along : (j : ℕ) → chosen s h states o ≡ Outcome j → Fate s h states o j n (getD (applied s h states o j) n (pos 0))
-          → (j : ℕ) × (e : ℕ) × Changed s h states o j n e
-      along j p (unmoved g q) = absurd (f (rw (performed-by s h states o j p) q))
-      along j p (moved e m q) = (
-        j,
-        e,
-        record {
-          chosen = p;
-          moves = m;
-          transition = effect-ok (w .accepted) o (w .exists) e (m .of) .transition;
-          old = num-pos (getD states n (pos 0)) (sym (m .from)) (omega (arith, m .from, w .lent .each n l, entity-ok (w .accepted) n l .few));
-          new = rw (performed-by s h states o j p) q;
-        },
-      )
+    -- a state changes only along a declared transition that an effect of the chosen outcome names and that starts from the present state
+    pub changes : (n : ℕ) → n < h .entities → (getD (performed s h states o wanted) n (pos 0) ≡ getD states n (pos 0) → ⊥)
+        → (j : ℕ) × (e : ℕ) × Changed s h states o wanted j n e
+    changes n l f = go (chosen s h states o wanted) refl
+      where
+        along : (j : ℕ) → chosen s h states o wanted ≡ Outcome j → Fate s h states o j n (getD (applied s h states o j) n (pos 0))
+            → (j : ℕ) × (e : ℕ) × Changed s h states o wanted j n e
+        along j p (unmoved g q) = absurd (f (rw (performed-by s h states o wanted j p) q))
+        along j p (moved e m q) = (
+          j,
+          e,
+          record {
+            chosen = p;
+            moves = m;
+            transition = effect-ok (w .accepted) o (w .exists) e (m .of) .transition;
+            old = num-pos (getD states n (pos 0)) (sym (m .from)) (omega (arith, m .from, w .lent .each n l, entity-ok (w .accepted) n l .few));
+            new = rw (performed-by s h states o wanted j p) q;
+          },
+        )
 
-      go : (r : Choice) → chosen s h states o ≡ r → (j : ℕ) × (e : ℕ) × Changed s h states o j n e
-      go (Outcome j) p = along j p (fate j n l)
-      go Nothing p = absurd (f (rw (performed-not s h states o p)))
+        go : (r : Choice) → chosen s h states o wanted ≡ r → (j : ℕ) × (e : ℕ) × Changed s h states o wanted j n e
+        go (Outcome j) p = along j p (fate j n l)
+        go Nothing p = absurd (f (rw (performed-none s h states o wanted p)))
+        go Several p = absurd (f (rw (performed-several s h states o wanted p)))

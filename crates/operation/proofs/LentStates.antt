@@ -10,9 +10,10 @@ use native.Mathlib.Omega.{arith}
 use native.Mathlib.Decide.{decLt}
 use borrow.Author.Tests.{lt-ltb, le-ltb, ltb-true}
 use Rattle.tables.proofs.Scanned.{stopped, ended, step, first-fail, first-scan}
+use Rattle.answer.specs.declared.Refusal.{Refusal}
 use Rattle.answer.specs.declared.Refusal.the-variants.{State}
 use Rattle.answer.specs.declared.Status.the-variants.{Done, Refused}
-use Rattle.answer.specs.Inner.{SmallStatus}
+use Rattle.answer.specs.Inner.{Every}
 use Rattle.layout.specs.declared.Header.{Header}
 use Rattle.records.specs.Entities.{states as stateCount}
 use Rattle.operation.specs.States.{present, stateIn, firstStray, statesFault}
@@ -65,11 +66,11 @@ module _ (s : List ℤ) (h : Header) (states : List ℤ) where
   unfolding stateIn
   in-states r = sym (all-in (h .entities) (record { here = omega arith; each = λ k p l. lt-ltb _ _ (r .each k l) }) (omega arith))
 
-  -- the place of refusal 8 is an entity's number, which a word holds
-  pub stray-small : h .entities ≤ 32 → SmallStatus (statesFault s h states)
+  -- refusal 8 is given at an entity's number
+  pub stray-every : (P : Refusal → Type 0) → ((n : ℕ) → n < h .entities → P (State n)) → Every P (statesFault s h states)
   unfolding statesFault
-  stray-small b = go (decLt (firstStray s h states) (h .entities))
+  stray-every P b = go (decLt (firstStray s h states) (h .entities))
     where
-      go : Dec (firstStray s h states < h .entities) → SmallStatus (statesFault s h states)
-      go (yes l) = rw (lt-ltb (firstStray s h states) (h .entities) l) (omega arith)
+      go : Dec (firstStray s h states < h .entities) → Every P (statesFault s h states)
+      go (yes l) = rw (lt-ltb (firstStray s h states) (h .entities) l) (b (firstStray s h states) l)
       go (no x) = rw (le-ltb (firstStray s h states) (h .entities) (omega arith)) tt

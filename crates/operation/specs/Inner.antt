@@ -6,6 +6,7 @@ use mathlib.Core.List.{List}
 use Prim.Native.Nat.{ℕ, _+_, _≤_, _<_}
 use lib.IntN.{ℤ, pos}
 use lib.ListN.{length, getD, set}
+use lib.Dec.{eqb}
 use Rattle.tables.specs.Inner.{marked}
 use Rattle.words.specs.declared.Record.{Record}
 use Rattle.layout.specs.declared.Header.{Header}
@@ -13,9 +14,11 @@ use Rattle.layout.specs.Tables.{operation, effect, entityOf, toOf, effectStartO
 use Rattle.records.specs.Accepted.{Accepted}
 use Rattle.records.specs.Operations.{effectsEnd, outcome}
 use Rattle.operation.specs.declared.Effects.{Effects}
-use Rattle.operation.specs.Outcomes.{ofOutcome, starts, matched, chosen}
+use Rattle.operation.specs.declared.Wanted.{Wanted}
+use Rattle.operation.specs.declared.Wanted.the-variants.{Any, One}
+use Rattle.operation.specs.Outcomes.{ofOutcome, starts, matched, another, chosen}
 use Rattle.operation.specs.declared.Choice.{Choice}
-use Rattle.operation.specs.declared.Choice.the-variants.{Outcome, Nothing}
+use Rattle.operation.specs.declared.Choice.the-variants.{Outcome, Nothing, Several}
 use Rattle.operation.specs.Changes.{applied}
 use Rattle.records.specs.Entities.{states as stateCount}
 use Rattle.operation.specs.States.{present}
@@ -64,10 +67,24 @@ pub record Shifted (s : List ℤ) (h : Header) (e : ℕ) (states : List ℤ) (mo
 unfoldable pub after : List ℤ → Header → List ℤ → ℕ → Choice → List ℤ
 after s h states o (Outcome j) = applied s h states o j
 after s h states o Nothing = states
+after s h states o Several = states
 
 -- the states after operation o
-unfoldable pub performed : List ℤ → Header → List ℤ → ℕ → List ℤ
-performed s h states o = after s h states o (chosen s h states o)
+unfoldable pub performed : List ℤ → Header → List ℤ → ℕ → Wanted → List ℤ
+performed s h states o w = after s h states o (chosen s h states o w)
+
+-- outcome j is asked for: it is the wanted one, or none is wanted
+unfoldable pub asks : Wanted → ℕ → Bool
+asks Any j = true
+asks (One k) j = eqb k j
+
+-- the choice with outcome j, which is applicable, where it is asked for
+unfoldable pub counted : Wanted → ℕ → Choice → Choice
+counted w j c = cond (asks w j) (another j c) c
+
+-- outcome j is asked for and applicable
+unfoldable pub candidate : (ℕ → Bool) → Wanted → ℕ → Bool
+candidate applies w j = asks w j && applies j
 
 -- there is a state for each entity, and each is among its entity's states
 pub record StatesIn (s : List ℤ) (h : Header) (states : List ℤ) : Type 0 where

@@ -1,17 +1,20 @@
--- 01, "Operation (004)": which outcome is chosen.
+-- 01, "Operation (004)", and 02, CR 1: which outcome is chosen.
 -- Assumes nothing.
-use Prim.Native.Nat.{ℕ}
-use lib.IntN.{ℤ}
-use mathlib.Core.Bool.{Bool, not, cond, _&&_, _||_}
+use Prim.Native.Nat.{ℕ, zero, suc}
+use lib.IntN.{ℤ, negsuc}
+use mathlib.Core.Bool.{Bool, true, not, cond, _&&_, _||_}
 use mathlib.Core.List.{List}
 use lib.Dec.{leb, ltb, eqb}
-use Rattle.tables.specs.Scan.{allBelow, anyBelow, firstFail}
+use Rattle.tables.specs.Scan.{allBelow, anyBelow}
+use Rattle.signed.specs.Words.{num, eqZ}
 use Rattle.words.specs.declared.Record.{Record}
 use Rattle.layout.specs.declared.Header.{Header}
-use Rattle.layout.specs.Tables.{operation, effect, entityOf, fromOf, effectStartOf, outcomesOf}
-use Rattle.records.specs.Operations.{effectsEnd, outcome}
+use Rattle.layout.specs.Tables.{operation, effect, entityOf, fromOf, effectStartOf}
+use Rattle.records.specs.Operations.{effectsEnd, outcomes, outcome}
 use Rattle.operation.specs.declared.Choice.{Choice}
-use Rattle.operation.specs.declared.Choice.the-variants.{Outcome, Nothing}
+use Rattle.operation.specs.declared.Choice.the-variants.{Outcome, Nothing, Several}
+use Rattle.operation.specs.declared.Wanted.{Wanted}
+use Rattle.operation.specs.declared.Wanted.the-variants.{Any, One}
 use Rattle.operation.specs.States.{present}
 
 -- effect e is one of outcome j of operation o
@@ -38,11 +41,34 @@ unblocked s h states o j e = not (ofOutcome s h o j e) || matched s h states o j
 unfoldable pub applicable : List ℤ → Header → List ℤ → ℕ → ℕ → Bool
 applicable s h states o j = allBelow (unblocked s h states o j) (h .effects)
 
--- the first applicable outcome in declared order, or the number of outcomes where none is
-unfoldable pub firstApplicable : List ℤ → Header → List ℤ → ℕ → ℕ
-firstApplicable s h states o = firstFail (λ j. not (applicable s h states o j)) 0 (outcomesOf (operation s h o))
+-- ---- 02, CR 1: "a call now carries a wanted outcome, or −1"
 
--- "the first applicable outcome in declared order is chosen"; refusal 11 is given exactly where it is Nothing
-unfoldable pub chosen : List ℤ → Header → List ℤ → ℕ → Choice
-chosen s h states o =
-    cond (ltb (firstApplicable s h states o) (outcomesOf (operation s h o))) (Outcome (firstApplicable s h states o)) Nothing
+-- what a word wants: with −1 any outcome will do
+unfoldable pub wantedOf : ℤ → Wanted
+wantedOf w = cond (eqZ w (negsuc 0)) Any (One (num w))
+
+-- "Not an outcome of the operation: 5": of n outcomes, the wanted one is among them
+unfoldable pub goodWanted : ℕ → Wanted → Bool
+goodWanted n Any = true
+goodWanted n (One j) = ltb j n
+
+-- one outcome more that is applicable
+unfoldable pub another : ℕ → Choice → Choice
+another j Nothing = Outcome j
+another j (Outcome i) = Several
+another j Several = Several
+
+-- of the first n outcomes: none that is applicable, the only one, or several
+unfoldable pub only : (ℕ → Bool) → ℕ → Choice
+only applies zero = Nothing
+only applies (suc n) = cond (applies n) (another n (only applies n)) (only applies n)
+
+-- "Wanted and applicable: it is chosen. Wanted and not applicable: 11. .. With −1 the only applicable outcome is chosen; if there are
+-- several, the new refusal 16": 11 exactly where it is Nothing, 16 exactly where it is Several
+unfoldable pub choice : (ℕ → Bool) → ℕ → Wanted → Choice
+choice applies n (One j) = cond (ltb j n && applies j) (Outcome j) Nothing
+choice applies n Any = only applies n
+
+-- the choice among an operation's outcomes
+unfoldable pub chosen : List ℤ → Header → List ℤ → ℕ → Wanted → Choice
+chosen s h states o w = choice (applicable s h states o) (outcomes s h o) w

@@ -9,9 +9,9 @@ ghost use Rattle.layout.specs.Tables.{effect};
 ghost use Rattle.records.specs.Accepted.{Accepted};
 ghost use Rattle.operation.specs.Mask.{inMask, allowed};
 ghost use Rattle.operation.specs.States.{statesFault};
-ghost use Rattle.operation.specs.Outcomes.{starts, chosen};
+ghost use Rattle.operation.specs.Outcomes.{starts, wantedOf, goodWanted, another, chosen};
 ghost use Rattle.operation.specs.Changes.{applied};
-ghost use Rattle.operation.specs.Inner.{performed, effectsOf, Read, OutcomeAt, Clear, Collected, Shifted};
+ghost use Rattle.operation.specs.Inner.{asks, counted, performed, effectsOf, Read, OutcomeAt, Clear, Collected, Shifted};
 ghost use Rattle.operation.specs.Ready.{Ready};
 use answer::Refusal;
 use answer::Status;
@@ -19,14 +19,23 @@ use layout::Header;
 use layout::Operation;
 use layout::Persona;
 use layout::place;
+use signed::num;
+use signed::same;
 use signed::to_word;
 use words::number;
 use words::number_at;
 
-// What an operation comes to: the number of the first applicable outcome, or none.
+// Which outcome is wanted: any that is the only one applicable, or one by its number.
+pub enum Wanted {
+    Any,
+    One(usize),
+}
+
+// What an operation comes to: the number of the chosen outcome; none; or several where none is wanted.
 pub enum Choice {
     Outcome(usize),
     Nothing,
+    Several,
 }
 
 // An operation's effects: their numbers run from first up to end, in so many outcomes.
@@ -143,18 +152,72 @@ fn collect(
     e
 }
 
-// The first applicable outcome. Outcomes ascend along the effects, so those of one outcome stand together and the walk goes along them.
-pub fn choose(s: &[i64], h: Header, states: &[i64], o: Operation) -> Choice
+// What a lent word wants.
+pub fn wanted_of(w: i64) -> Wanted
+    ensures { λ r. ⌜ r ≡ wantedOf w ⌝ }
+{
+    if same(w, -1) {
+        Wanted::Any
+    } else {
+        Wanted::One(num(w))
+    }
+}
+
+// Whether the wanted outcome is one of n.
+pub fn good_wanted(n: usize, wanted: Wanted) -> bool
+    ensures { λ b. ⌜ b ≡ goodWanted n wanted ⌝ }
+{
+    match wanted {
+        Wanted::Any => true,
+        Wanted::One(j) => j < n,
+    }
+}
+
+// The choice with one outcome more.
+fn another(j: usize, choice: Choice) -> Choice
+    ensures { λ r. ⌜ r ≡ another j choice ⌝ }
+{
+    match choice {
+        Choice::Nothing => Choice::Outcome(j),
+        Choice::Outcome(_) => Choice::Several,
+        Choice::Several => Choice::Several,
+    }
+}
+
+// Whether outcome j is asked for: it is the wanted one, or none is wanted.
+fn asked(wanted: Wanted, j: usize) -> bool
+    ensures { λ b. ⌜ b ≡ asks wanted j ⌝ }
+{
+    match wanted {
+        Wanted::Any => true,
+        Wanted::One(k) => k == j,
+    }
+}
+
+// The choice with outcome j, which is applicable, where it is asked for.
+fn counted(wanted: Wanted, j: usize, choice: Choice) -> Choice
+    ensures { λ r. ⌜ r ≡ counted wanted j choice ⌝ }
+{
+    if asked(wanted, j) {
+        another(j, choice)
+    } else {
+        choice
+    }
+}
+
+// The chosen outcome. Outcomes ascend along the effects, so those of one outcome stand together and the walk goes along them.
+pub fn choose(s: &[i64], h: Header, states: &[i64], o: Operation, wanted: Wanted) -> Choice
     requires { ⌜ Ready (now s) h (now states) (o .0) ⌝ }
-    ensures { λ r. ⌜ r ≡ chosen (now (s .entry)) h (now (states .entry)) (o .0) ⌝ }
+    ensures { λ r. ⌜ r ≡ chosen (now (s .entry)) h (now (states .entry)) (o .0) wanted ⌝ }
 {
     let effects = effects_of(s, h, o);
     let outcomes = effects.outcomes;
     let mut at = effects.first;
     let mut j = 0;
+    let mut choice = Choice::Nothing;
     'outcomes: loop {
         if j == outcomes {
-            break Choice::Nothing;
+            break choice;
         }
         let mut found = [false; Header::ENTITIES];
         let stop = collect(s, h, states, &mut found, o, at, j);
@@ -169,7 +232,10 @@ pub fn choose(s: &[i64], h: Header, states: &[i64], o: Operation) -> Choice
             }
             d += 1;
         }
-        break Choice::Outcome(j);
+        // Outcome j is applicable.
+        choice = counted(wanted, j, choice);
+        at = stop;
+        j += 1;
     }
 }
 
@@ -208,16 +274,17 @@ pub fn apply(s: &[i64], h: Header, states: &mut [i64], o: Operation, j: usize)
     }
 }
 
-// The whole operation: the first applicable outcome is applied; where there is none, the states stay.
-pub fn perform(s: &[i64], h: Header, states: &mut [i64], o: Operation) -> Choice
+// The whole operation: the chosen outcome is applied; where none is chosen, the states stay.
+pub fn perform(s: &[i64], h: Header, states: &mut [i64], o: Operation, wanted: Wanted) -> Choice
     requires { ⌜ Ready (now s) h (now states) (o .0) ⌝ }
-    ensures { λ r. ⌜ r ≡ chosen (now (s .entry)) h (now (states .entry)) (o .0) ⌝ }
-    ensures { λ r. ⌜ now (states .exit) ≡ performed (now (s .entry)) h (now (states .entry)) (o .0) ⌝ }
+    ensures { λ r. ⌜ r ≡ chosen (now (s .entry)) h (now (states .entry)) (o .0) wanted ⌝ }
+    ensures { λ r. ⌜ now (states .exit) ≡ performed (now (s .entry)) h (now (states .entry)) (o .0) wanted ⌝ }
 {
-    let choice = choose(s, h, states, o);
+    let choice = choose(s, h, states, o, wanted);
     match choice {
         Choice::Outcome(j) => apply(s, h, states, o, j),
         Choice::Nothing => {}
+        Choice::Several => {}
     }
     choice
 }

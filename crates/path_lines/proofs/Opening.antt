@@ -10,8 +10,9 @@ use borrow.Author.Tests.{le-leb, lt-leb}
 use lib.IntN.{ℤ, natAbs}
 use lib.ListN.{length, take, length-append}
 use Rattle.answer.specs.Number.{number, place}
+use Rattle.answer.proofs.Numbers.{number-range}
 use Rattle.answer.specs.declared.Refusal.{Refusal}
-use Rattle.answer.specs.declared.Refusal.the-variants.{Header as BadHeader, Group, Record as BadRecord, Length, Missing, FactValue, FactAbsent, State, Persona, Precondition, NoOutcome, NotPath, LastPath, Line, NoRoom}
+use Rattle.answer.specs.declared.Refusal.the-variants.{Line, NoRoom}
 use Rattle.answer.specs.declared.Count.{Count}
 use Rattle.answer.specs.declared.Count.the-variants.{Is, Refused as NoCount}
 use Rattle.layout.specs.declared.Header.{Header}
@@ -163,26 +164,8 @@ entered text lent {h} {n} {x} {left} e f p = rw f (go (textCount text) refl (sym
     go (Is m) q z = entered-sheet text lent h n m (opened (wordsOf text)) q refl z
     go (NoCount r) q z = let y : _≡_ {A = ℕ} 0 1 = cc in absurd (omega arith)
 
--- ---- a refusal's numbers are small
+-- ---- a refusal's place is small
 
-pub number-low : (r : Refusal) → number r ≤ 15
-number-low BadHeader = omega arith
-number-low Group = omega arith
-number-low (BadRecord k) = omega arith
-number-low Length = omega arith
-number-low Missing = omega arith
-number-low (FactValue k) = omega arith
-number-low (FactAbsent k) = omega arith
-number-low (State k) = omega arith
-number-low Persona = omega arith
-number-low Precondition = omega arith
-number-low NoOutcome = omega arith
-number-low NotPath = omega arith
-number-low LastPath = omega arith
-number-low (Line k) = omega arith
-number-low NoRoom = omega arith
-
--- and so are their places
 sheet-low : (s : List ℤ) (n : ℕ) (r : Refusal) (o : Climbed) → opened s ≡ o → sheetEntrance n o ≡ Bad r → place r < 100000
 unfolding by
 sheet-low s n r (At h) p e = let z : _≡_ {A = ℕ} 0 1 = cc in absurd (omega arith)
@@ -224,6 +207,6 @@ refused-short r l =
       length-append (numberField n false) (numbersLine (k ∷ [])),
       ap length (line-last k),
       length-append (numberField k true) [],
-      number-size n 1 false (omega (arith, number-low r)),
+      number-size n 1 false (omega (arith, number-range r .1)),
       number-size k 4 true (omega arith),
     )

@@ -11,6 +11,7 @@ use Rattle.layout.specs.declared.Header.{Header}
 use Rattle.layout.specs.Tables.{entity, transition, effect}
 use Rattle.records.proofs.OperationLaws.{Declared}
 use Rattle.operation.specs.States.{present}
+use Rattle.operation.specs.declared.Wanted.{Wanted}
 use Rattle.operation.specs.Inner.{performed}
 use Rattle.operation.specs.Ready.{Ready}
 use Rattle.operation.proofs.Guarantees.{changes}
@@ -22,13 +23,13 @@ module _ (s : List ℤ) (h : Header) (n : ℕ) where
   reached-step r d e v = subst (Reached s h n) (d .to) (along v (d .which) (d .exists) (d .entity ∙ e) (d .from))
 
 -- an operation leaves each entity in a state that is reached, where it was in one
-pub reached-after : {s : List ℤ} {h : Header} {states : List ℤ} {o : ℕ} → Ready s h states o → (n : ℕ) → n < h .entities
-    → Reached s h n (present states n) → Reached s h n (present (performed s h states o) n)
-reached-after {s} {h} {states} {o} w n l v = go (ℤ-discrete (getD (performed s h states o) n (pos 0)) (getD states n (pos 0)))
+pub reached-after : {s : List ℤ} {h : Header} {states : List ℤ} {o : ℕ} → Ready s h states o → (d : Wanted) (n : ℕ) → n < h .entities
+    → Reached s h n (present states n) → Reached s h n (present (performed s h states o d) n)
+reached-after {s} {h} {states} {o} w d n l v = go (ℤ-discrete (getD (performed s h states o d) n (pos 0)) (getD states n (pos 0)))
   where
-    go : Dec (getD (performed s h states o) n (pos 0) ≡ getD states n (pos 0)) → Reached s h n (present (performed s h states o) n)
+    go : Dec (getD (performed s h states o d) n (pos 0) ≡ getD states n (pos 0)) → Reached s h n (present (performed s h states o d) n)
     go (yes e) = rw e v
     go (no x) =
-        let c = changes w n l x .2 in
-        let e = changes w n l x .1 in
+        let c = changes w d n l x .2 in
+        let e = changes w d n l x .1 in
         rw (c .new, num-of (effect s h e .w2)) (reached-step s h n (effect s h e) (c .transition) (c .moves .entity) (rw (c .moves .from) v))

@@ -29,7 +29,7 @@ use Rattle.reach.proofs.Rounds.{mask-small}
 use Rattle.causes.specs.Causes.{admissible, canCause}
 use Rattle.ladder.specs.Ladder.{opened, exists}
 use Rattle.ladder.proofs.ClimbLaws.{opened-at}
-use Rattle.ladder.proofs.Small.{opened-small, rungs-small, by-small, call-small}
+use Rattle.ladder.proofs.Small.{opened-small, rungs-small, call-small}
 use Rattle.records.specs.Operations.{outcomes}
 use Rattle.calls.specs.Reports.{reportRungs, reported, yesNo}
 use Rattle.calls.specs.Reports.{statesAnswer, reachableAnswer, admissibleAnswer, canCauseAnswer, rulesAnswer, stratumAnswer, outcomesAnswer, treeSizeAnswer, depthAnswer}
@@ -72,7 +72,7 @@ can-cause-small s p e a b = small s _ _ (λ h x y. bit-small (canCause s h (num 
 
 pub rules-small : (s : List ℤ) → SmallCount (rulesAnswer s)
 rules-small s =
-    by-small SmallCount NoCount (λ h. Is (h .rules)) (λ r p. p) (opened s) (opened-small s)
+    opened-small SmallCount NoCount (λ h. Is (h .rules)) (λ r p. p) s
     (λ h e. omega (arith, opened-at s refl e .sheet .sized .limits .rules))
 
 pub stratum-small : (s : List ℤ) (r : ℤ) → SmallCount (stratumAnswer s r)

@@ -1,4 +1,5 @@
 pub mod Memory
+pub mod Wants
 pub mod StepLaws
 pub mod RunPaths
 pub mod RunLoop

@@ -11,6 +11,7 @@ use native.Mathlib.Omega.{arith}
 use Rattle.tables.proofs.Bools.{bool-cases}
 use Rattle.answer.specs.Inner.{SmallWalk}
 use Rattle.layout.specs.declared.Header.{Header}
+use Rattle.operation.specs.declared.Wanted.{Wanted}
 use Rattle.operation.specs.Inner.{StatesIn}
 use Rattle.walks.specs.Paths.{stepsOf}
 use Rattle.walks.specs.Walkers.{taken}
@@ -19,22 +20,22 @@ use Rattle.walks.proofs.AllPaths.{path-small}
 use Rattle.walks.proofs.Buffers.{length-laid}
 use Rattle.walks.proofs.Walks.{going-room, going-step}
 use Rattle.walks.proofs.Trails.{Trail, begun as set-out, went, trail-going, trail-is-path, trail-listed, trail-short, trail-arrives}
-use Rattle.run.specs.Runs.{routeTaken, Running, begun, stepped, runOn, ran, ranWalk, ranPath, ranStates}
+use Rattle.run.specs.Runs.{wantedAt, routeTaken, Running, begun, stepped, runOn, ran, ranWalk, ranPath, ranStates}
 use Rattle.run.specs.Inner.{Steppable, Runnable, Taken}
 use Rattle.run.proofs.StepLaws.{route-of, states-then-in}
 
 -- ---- a run by its steps
 
-module _ (s : List ℤ) (h : Header) (facts verdicts : List ℤ) (t : Running) where
-  pub run-stops : (n : ℕ) → t .walker .finished ≡ true → runOn s h facts verdicts n t ≡ t
+module _ (s : List ℤ) (h : Header) (facts verdicts : List ℤ) (wants : ℕ → Wanted) (t : Running) where
+  pub run-stops : (n : ℕ) → t .walker .finished ≡ true → runOn s h facts verdicts wants n t ≡ t
   unfolding runOn
   run-stops zero e = refl
-  run-stops (suc n) e = ap (λ (x : Bool). elim x [ true ↦ t | false ↦ runOn s h facts verdicts n (stepped s h facts verdicts t) ]) e
+  run-stops (suc n) e = ap (λ (x : Bool). elim x [ true ↦ t | false ↦ runOn s h facts verdicts wants n (stepped s h facts verdicts wants t) ]) e
 
   pub run-steps : (n : ℕ) → t .walker .finished ≡ false
-      → runOn s h facts verdicts (suc n) t ≡ runOn s h facts verdicts n (stepped s h facts verdicts t)
+      → runOn s h facts verdicts wants (suc n) t ≡ runOn s h facts verdicts wants n (stepped s h facts verdicts wants t)
   unfolding runOn
-  run-steps n e = ap (λ (x : Bool). elim x [ true ↦ t | false ↦ runOn s h facts verdicts n (stepped s h facts verdicts t) ]) e
+  run-steps n e = ap (λ (x : Bool). elim x [ true ↦ t | false ↦ runOn s h facts verdicts wants n (stepped s h facts verdicts wants t) ]) e
 
 -- ---- what holds all along
 
@@ -60,50 +61,57 @@ module _ {s : List ℤ} {h : Header} {facts verdicts states : List ℤ} {f : ℕ
     pub held-step : Steppable s h facts verdicts (t .walker .step)
     held-step = record { accepted = u .lent .sheet; known = u .known; judged = u .judged; exists = going-step (trail-going (u .lent) (k .trail)) e }
 
-    pub held-stepped : Held s h f (stepped s h facts verdicts t)
+    pub held-stepped : (wants : ℕ → Wanted) → Held s h f (stepped s h facts verdicts wants t)
     unfolding stepped
-    held-stepped =
+    held-stepped wants =
         record {
-          trail = went (k .trail) e (routeTaken s h facts verdicts (t .states) (t .walker .step)) (route-of held-step (k .valid));
-          valid = states-then-in held-step (k .valid);
+          trail =
+              went (k .trail) e (routeTaken s h facts verdicts (t .states) (t .walker .step) (wants (t .walker .step)))
+              (route-of held-step (k .valid) (wants (t .walker .step)));
+          valid = states-then-in held-step (k .valid) (wants (t .walker .step));
         }
 
-  -- a run that has steps enough is finished
-  ends : (n : ℕ) (t : Running) → Held s h f t → stepsOf s h f ≤ n + t .walker .length
-      → Held s h f (runOn s h facts verdicts n t) × (runOn s h facts verdicts n t .walker .finished ≡ true)
-  unfolding runOn stepped taken
-  ends zero t k l = ⊎-elim (λ e. (k, e)) (λ e. absurd (omega (arith, held-room k e))) (bool-cases (t .walker .finished))
-  ends (suc n) t k l =
-      ⊎-elim (λ e. rw (run-stops s h facts verdicts t (suc n) e) (k, e))
-      (λ e. rw (run-steps s h facts verdicts t n e) (ends n (stepped s h facts verdicts t) (held-stepped k e) (omega arith)))
-      (bool-cases (t .walker .finished))
+  module _ (wants : ℕ → Wanted) where
+    -- a run that has steps enough is finished
+    ends : (n : ℕ) (t : Running) → Held s h f t → stepsOf s h f ≤ n + t .walker .length
+        → Held s h f (runOn s h facts verdicts wants n t) × (runOn s h facts verdicts wants n t .walker .finished ≡ true)
+    unfolding runOn stepped taken
+    ends zero t k l = ⊎-elim (λ e. (k, e)) (λ e. absurd (omega (arith, held-room k e))) (bool-cases (t .walker .finished))
+    ends (suc n) t k l =
+        ⊎-elim (λ e. rw (run-stops s h facts verdicts wants t (suc n) e) (k, e))
+        (λ e. rw (run-steps s h facts verdicts wants t n e) (ends n (stepped s h facts verdicts wants t) (held-stepped k e wants) (omega arith)))
+        (bool-cases (t .walker .finished))
 
-  done : Held s h f (ran s h facts verdicts states f) × (ran s h facts verdicts states f .walker .finished ≡ true)
-  unfolding ran
-  done = ends (stepsOf s h f) (begun s h f states) held-begun (omega arith)
+    done : Held s h f (ran s h facts verdicts states f wants) × (ran s h facts verdicts states f wants .walker .finished ≡ true)
+    unfolding ran
+    done = ends (stepsOf s h f) (begun s h f states) held-begun (omega arith)
 
-  -- any run takes the routes of one of the listed paths and answers that path
-  pub run-listed : Taken s h f (ran s h facts verdicts states f) (ranWalk s h facts verdicts states f)
-  unfolding ranWalk
-  run-listed =
-      let t = done .0 .trail in
-      let e = done .1 in
-      record { finished = e; listed = trail-listed (u .lent) t e; answers = trail-arrives t e; within = trail-short (u .lent) t e }
+  -- any run takes the routes of one of the listed paths and answers that path, whatever is wanted
+  module _ (words : List ℤ) where
+    pub run-listed : Taken s h f (ran s h facts verdicts states f (wantedAt s h f words)) (ranWalk s h facts verdicts states f words)
+    unfolding ranWalk
+    run-listed =
+        let z = done (wantedAt s h f words) in
+        let t = z .0 .trail in
+        let e = z .1 in
+        record { finished = e; listed = trail-listed (u .lent) t e; answers = trail-arrives t e; within = trail-short (u .lent) t e }
 
-  -- its answer fits a signed word
-  pub run-small : SmallWalk (ranWalk s h facts verdicts states f)
-  run-small =
-      let z =
-      path-small s h (u .lent .sheet) f (u .lent .flow) (ran s h facts verdicts states f .path)
-      (trail-is-path (u .lent) (done .0 .trail) (done .1)) in
-      rw (run-listed .answers) (omega arith, omega arith)
+    -- its answer fits a signed word
+    pub run-small : SmallWalk (ranWalk s h facts verdicts states f words)
+    run-small =
+        let d = done (wantedAt s h f words) in
+        let z =
+        path-small s h (u .lent .sheet) f (u .lent .flow) (ran s h facts verdicts states f (wantedAt s h f words) .path)
+        (trail-is-path (u .lent) (d .0 .trail) (d .1)) in
+        rw (run-listed .answers) (omega arith, omega arith)
 
-  -- the states afterwards are among their entities' states
-  pub run-states-in : StatesIn s h (ranStates s h facts verdicts states f)
-  unfolding ranStates
-  run-states-in = done .0 .valid
+    -- the states afterwards are among their entities' states
+    pub run-states-in : StatesIn s h (ranStates s h facts verdicts states f words)
+    unfolding ranStates
+    run-states-in = done (wantedAt s h f words) .0 .valid
 
-  -- the buffer keeps its length
-  pub run-path-long : length (ranPath s h facts verdicts states f b) ≡ length b
-  unfolding ranPath
-  run-path-long = length-laid (ran s h facts verdicts states f .path) b (omega (arith, run-listed .within, u .lent .room))
+    -- the buffer keeps its length
+    pub run-path-long : length (ranPath s h facts verdicts states f words b) ≡ length b
+    unfolding ranPath
+    run-path-long =
+        length-laid (ran s h facts verdicts states f (wantedAt s h f words) .path) b (omega (arith, run-listed .within, u .lent .room))

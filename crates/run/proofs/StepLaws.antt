@@ -18,11 +18,12 @@ use Rattle.records.proofs.FlowLaws.{StepKind, performs as is-operation, branche
 use Rattle.records.proofs.OperationLaws.{operation-ok}
 use Rattle.predicate.specs.Values.{truth}
 use Rattle.predicate.specs.Inner.{Evaluable}
+use Rattle.operation.specs.declared.Wanted.{Wanted}
 use Rattle.operation.specs.Mask.{allowed}
 use Rattle.operation.specs.Inner.{StatesIn}
 use Rattle.operation.specs.Ready.{Ready}
-use Rattle.attempt.specs.Attempts.{precondition, attemptedIf, attempted, attemptedStates}
-use Rattle.attempt.specs.Inner.{Attemptable, attemptedStatesIf}
+use Rattle.attempt.specs.Attempts.{precondition, attempted, attemptedStates}
+use Rattle.attempt.specs.Inner.{Attemptable, attemptedIf, attemptedStatesIf}
 use Rattle.attempt.proofs.AttemptLaws.{refused-states, outcome-below, attempted-in, evaluable as condition, attempt-admits}
 use Rattle.walks.specs.Paths.{firstRouteOf, routesOf, RouteOf}
 use Rattle.walks.proofs.Ways.{step-ends}
@@ -31,31 +32,31 @@ use Rattle.run.specs.Inner.{Steppable}
 
 -- ---- by the step's kind
 
-module _ (s : List ℤ) (h : Header) (facts verdicts states : List ℤ) (i : ℕ) where
+module _ (s : List ℤ) (h : Header) (facts verdicts states : List ℤ) (i : ℕ) (d : Wanted) where
   pub operation-route : performs s h i ≡ true
-      → routeTaken s h facts verdicts states i ≡ answerRoute s h i (attempted s h facts verdicts states (personaAt s h i) (operationAt s h i))
+      → routeTaken s h facts verdicts states i d ≡ answerRoute s h i (attempted s h facts verdicts states (personaAt s h i) (operationAt s h i) d)
   unfolding routeTaken
   operation-route e = rw (e, routeTaken)
 
   pub operation-states : performs s h i ≡ true
-      → statesThen s h facts verdicts states i ≡ attemptedStates s h facts verdicts states (personaAt s h i) (operationAt s h i)
+      → statesThen s h facts verdicts states i d ≡ attemptedStates s h facts verdicts states (personaAt s h i) (operationAt s h i) d
   unfolding statesThen
   operation-states e = rw (e, statesThen)
 
-  pub branch-takes : performs s h i ≡ false → routeTaken s h facts verdicts states i ≡ branchRoute s h i (truth s h facts verdicts (nodeAt s h i))
+  pub branch-takes : performs s h i ≡ false → routeTaken s h facts verdicts states i d ≡ branchRoute s h i (truth s h facts verdicts (nodeAt s h i))
   unfolding routeTaken
   branch-takes e = rw (e, routeTaken)
 
-  pub branch-states : performs s h i ≡ false → statesThen s h facts verdicts states i ≡ states
+  pub branch-states : performs s h i ≡ false → statesThen s h facts verdicts states i d ≡ states
   unfolding statesThen
   branch-states e = rw (e, statesThen)
 
   -- a step that is refused changes nothing, and takes the last of its routes
-  pub refused-step : (r : Refusal) → performs s h i ≡ true → attempted s h facts verdicts states (personaAt s h i) (operationAt s h i) ≡ Refused r
-      → (statesThen s h facts verdicts states i ≡ states) × (routeTaken s h facts verdicts states i ≡ firstRouteOf s h i + routesOf s h i - 1)
+  pub refused-step : (r : Refusal) → performs s h i ≡ true → attempted s h facts verdicts states (personaAt s h i) (operationAt s h i) d ≡ Refused r
+      → (statesThen s h facts verdicts states i d ≡ states) × (routeTaken s h facts verdicts states i d ≡ firstRouteOf s h i + routesOf s h i - 1)
   unfolding answerRoute
   refused-step r e q =
-      (operation-states e ∙ refused-states s h facts verdicts states (personaAt s h i) (operationAt s h i) r q, operation-route e ∙ rw q)
+      (operation-states e ∙ refused-states s h facts verdicts states (personaAt s h i) (operationAt s h i) d r q, operation-route e ∙ rw q)
 
 -- ---- on an accepted sheet
 
@@ -107,39 +108,40 @@ module _ {s : List ℤ} {h : Header} {facts verdicts : List ℤ} {i : ℕ} (w : 
             record { ready = record { accepted = w .accepted; lent = v; exists = o }; known = w .known; judged = w .judged; persona = p }
         go (is-branch z o t c) = let k = eqb-true (step s h i .w0) 0 e in absurd (omega arith)
 
-    pub answer-of : performs s h i ≡ true → (r : Count) → attempted s h facts verdicts states (personaAt s h i) (operationAt s h i) ≡ r
-        → RouteOf s h i (answerRoute s h i r)
-    unfolding answerRoute
-    answer-of e (Is j) q = record { low = omega arith; high = omega (arith, operation-routes e, outcome-below (attemptable e) j q) }
-    answer-of e (Refused r) q = let k = operation-routes e in record { low = omega arith; high = omega arith }
+    module _ (d : Wanted) where
+      pub answer-of : performs s h i ≡ true → (r : Count) → attempted s h facts verdicts states (personaAt s h i) (operationAt s h i) d ≡ r
+          → RouteOf s h i (answerRoute s h i r)
+      unfolding answerRoute
+      answer-of e (Is j) q = record { low = omega arith; high = omega (arith, operation-routes e, outcome-below (attemptable e) d j q) }
+      answer-of e (Refused r) q = let k = operation-routes e in record { low = omega arith; high = omega arith }
 
-    -- the route taken is one of the step's
-    pub route-of : RouteOf s h i (routeTaken s h facts verdicts states i)
-    route-of =
-        ⊎-elim (λ e. rw (operation-route s h facts verdicts states i e)
-        (answer-of e (attempted s h facts verdicts states (personaAt s h i) (operationAt s h i)) refl))
-        (λ e. rw (branch-takes s h facts verdicts states i e) (branch-of e (truth s h facts verdicts (nodeAt s h i)))) (bool-cases (performs s h i))
+      -- the route taken is one of the step's
+      pub route-of : RouteOf s h i (routeTaken s h facts verdicts states i d)
+      route-of =
+          ⊎-elim (λ e. rw (operation-route s h facts verdicts states i d e)
+          (answer-of e (attempted s h facts verdicts states (personaAt s h i) (operationAt s h i) d) refl))
+          (λ e. rw (branch-takes s h facts verdicts states i d e) (branch-of e (truth s h facts verdicts (nodeAt s h i)))) (bool-cases (performs s h i))
 
-    -- the states afterwards are among their entities' states
-    pub states-then-in : StatesIn s h (statesThen s h facts verdicts states i)
-    states-then-in =
-        ⊎-elim (λ e. rw (operation-states s h facts verdicts states i e) (attempted-in (attemptable e)))
-        (λ e. rw (branch-states s h facts verdicts states i e) v) (bool-cases (performs s h i))
+      -- the states afterwards are among their entities' states
+      pub states-then-in : StatesIn s h (statesThen s h facts verdicts states i d)
+      states-then-in =
+          ⊎-elim (λ e. rw (operation-states s h facts verdicts states i d e) (attempted-in (attemptable e) d))
+          (λ e. rw (branch-states s h facts verdicts states i d e) v) (bool-cases (performs s h i))
 
 -- ---- what the code finds
 
-module _ (s : List ℤ) (h : Header) (facts verdicts states : List ℤ) (i : ℕ) where
+module _ (s : List ℤ) (h : Header) (facts verdicts states : List ℤ) (i : ℕ) (d : Wanted) where
   -- an operation step
   pub took-operation : (r : ℕ) (end : List ℤ) → performs s h i ≡ true
-      → r ≡ answerRoute s h i (attempted s h facts verdicts states (personaAt s h i) (operationAt s h i))
-      → end ≡ attemptedStates s h facts verdicts states (personaAt s h i) (operationAt s h i)
-      → (r ≡ routeTaken s h facts verdicts states i) × (end ≡ statesThen s h facts verdicts states i)
-  took-operation r end e p q = (p ∙ sym (operation-route s h facts verdicts states i e), q ∙ sym (operation-states s h facts verdicts states i e))
+      → r ≡ answerRoute s h i (attempted s h facts verdicts states (personaAt s h i) (operationAt s h i) d)
+      → end ≡ attemptedStates s h facts verdicts states (personaAt s h i) (operationAt s h i) d
+      → (r ≡ routeTaken s h facts verdicts states i d) × (end ≡ statesThen s h facts verdicts states i d)
+  took-operation r end e p q = (p ∙ sym (operation-route s h facts verdicts states i d e), q ∙ sym (operation-states s h facts verdicts states i d e))
 
   -- a branch
   pub took-branch : (r : ℕ) → performs s h i ≡ false → r ≡ branchRoute s h i (truth s h facts verdicts (nodeAt s h i))
-      → (r ≡ routeTaken s h facts verdicts states i) × (states ≡ statesThen s h facts verdicts states i)
-  took-branch r e p = (p ∙ sym (branch-takes s h facts verdicts states i e), sym (branch-states s h facts verdicts states i e))
+      → (r ≡ routeTaken s h facts verdicts states i d) × (states ≡ statesThen s h facts verdicts states i d)
+  took-branch r e p = (p ∙ sym (branch-takes s h facts verdicts states i d e), sym (branch-states s h facts verdicts states i d e))
 
 -- a branch: b is whether its node n is true
 module _ {s : List ℤ} {h : Header} {facts verdicts : List ℤ} {i first n : ℕ} {b : Bool} (w : Steppable s h facts verdicts i)
@@ -166,30 +168,30 @@ module _ {s : List ℤ} {h : Header} {facts verdicts states : List ℤ} {i first
   pub triable : Ready s h states o × (p < h .personas)
   triable = (asked .ready, asked .persona)
 
-  module _ {t : Bool} {x : Count} {end : List ℤ} (is-truth : t ≡ (allowed s h o p && truth s h facts verdicts (precondition s h o)))
-      (is-if : x ≡ attemptedIf s h t states p o) (is-left : end ≡ attemptedStatesIf s h t states p o) where
-    tried : (x ≡ attempted s h facts verdicts states p o) × (end ≡ attemptedStates s h facts verdicts states p o)
-    tried = attempt-admits s h facts verdicts states p o is-if is-left is-truth
+  module _ (d : Wanted) {t : Bool} {x : Count} {end : List ℤ} (is-truth : t ≡ (allowed s h o p && truth s h facts verdicts (precondition s h o)))
+      (is-if : x ≡ attemptedIf s h t states p o d) (is-left : end ≡ attemptedStatesIf s h t states p o d) where
+    tried : (x ≡ attempted s h facts verdicts states p o d) × (end ≡ attemptedStates s h facts verdicts states p o d)
+    tried = attempt-admits s h facts verdicts states p o d is-if is-left is-truth
 
-    answered : attempted s h facts verdicts states (personaAt s h i) (operationAt s h i) ≡ x
+    answered : attempted s h facts verdicts states (personaAt s h i) (operationAt s h i) d ≡ x
     answered = rw (of-step, by-persona) at (sym (tried .0))
 
-    ended : end ≡ attemptedStates s h facts verdicts states (personaAt s h i) (operationAt s h i)
+    ended : end ≡ attemptedStates s h facts verdicts states (personaAt s h i) (operationAt s h i) d
     ended = rw (of-step, by-persona) at (tried .1)
 
     pub outcome-fits : (j : ℕ) → x ≡ Is j → first + j < h .routes
     unfolding answerRoute
-    outcome-fits j z = rw q (omega (arith, answer-of w v e (Is j) (answered ∙ z) .high, routes-end w))
+    outcome-fits j z = rw q (omega (arith, answer-of w v d e (Is j) (answered ∙ z) .high, routes-end w))
 
     pub by-outcome : (j : ℕ) → x ≡ Is j
-        → (first + j ≡ answerRoute s h i (attempted s h facts verdicts states (personaAt s h i) (operationAt s h i)))
-        × (end ≡ attemptedStates s h facts verdicts states (personaAt s h i) (operationAt s h i))
+        → (first + j ≡ answerRoute s h i (attempted s h facts verdicts states (personaAt s h i) (operationAt s h i) d))
+        × (end ≡ attemptedStates s h facts verdicts states (personaAt s h i) (operationAt s h i) d)
     unfolding answerRoute
     by-outcome j z = (rw (answered ∙ z, q), ended)
 
     pub by-failure : (r : Refusal) (count : ℕ) → x ≡ Refused r → count ≡ routesOf s h i
-        → (first + count - 1 ≡ answerRoute s h i (attempted s h facts verdicts states (personaAt s h i) (operationAt s h i)))
-        × (end ≡ attemptedStates s h facts verdicts states (personaAt s h i) (operationAt s h i))
+        → (first + count - 1 ≡ answerRoute s h i (attempted s h facts verdicts states (personaAt s h i) (operationAt s h i) d))
+        × (end ≡ attemptedStates s h facts verdicts states (personaAt s h i) (operationAt s h i) d)
     unfolding answerRoute
     by-failure r count z k = (rw (answered ∙ z, q, k), ended)
 

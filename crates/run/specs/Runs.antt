@@ -1,20 +1,24 @@
--- 01, "Flow" under "Evaluation": a run of a flow. "Facts and verdicts are fixed at its start."
+-- 01, "Flow" under "Evaluation", and 02, CR 1: a run of a flow. "Facts and verdicts are fixed at its start."
 -- Assumes nothing.
 use mathlib.Core.Bool.{Bool, true, false}
 use mathlib.Core.List.{List, [], _∷_, _++_}
 use Prim.Native.Nat.{ℕ, zero, suc, _+_, _-_}
-use lib.IntN.{ℤ}
-use lib.ListN.{length}
+use lib.IntN.{ℤ, pos}
+use lib.ListN.{getD}
 use lib.Dec.{eqb}
+use Rattle.tables.specs.Scan.{allBelow}
 use Rattle.answer.specs.declared.Count.{Count}
 use Rattle.answer.specs.declared.Count.the-variants.{Is, Refused}
 use Rattle.answer.specs.declared.Walk.{Walk}
 use Rattle.layout.specs.declared.Header.{Header}
 use Rattle.layout.specs.Tables.{step, kindOf, nodeNamed, personaNamed, operationNamed}
+use Rattle.records.specs.Operations.{outcomes}
 use Rattle.predicate.specs.Values.{truth}
+use Rattle.operation.specs.declared.Wanted.{Wanted}
+use Rattle.operation.specs.Outcomes.{wantedOf, goodWanted}
 use Rattle.attempt.specs.Attempts.{attempted, attemptedStates}
 use Rattle.walks.specs.declared.Walker.{Walker}
-use Rattle.walks.specs.Paths.{stepsOf, firstRouteOf, routesOf}
+use Rattle.walks.specs.Paths.{firstStepOf, stepsOf, firstRouteOf, routesOf}
 use Rattle.walks.specs.Walkers.{started, taken, arrived}
 use Rattle.walks.specs.Follows.{laid}
 
@@ -34,7 +38,23 @@ personaAt s h i = personaNamed (step s h i)
 abbrev pub nodeAt : List ℤ → Header → ℕ → ℕ
 nodeAt s h i = nodeNamed (step s h i)
 
--- "an operation step answered 9, 10 or 11 .. takes the failure route", which is its last; "otherwise the route of its outcome"
+-- "a flow run is lent one wanted word per step of the flow": what step i of flow f wants
+unfoldable pub wantedAt : List ℤ → Header → ℕ → List ℤ → ℕ → Wanted
+wantedAt s h f words i = wantedOf (getD words (i - firstStepOf s h f) (pos 0))
+
+-- how many outcomes step i may want: those of its operation; a branch has none, so "a branch step's word must be −1"
+unfoldable pub outcomesAt : List ℤ → Header → ℕ → ℕ
+outcomesAt s h i = elim (performs s h i) [ true ↦ outcomes s h (operationAt s h i) | false ↦ 0 ]
+
+-- "all are judged first": the word of each step of flow f, whether a route reaches it or not
+unfoldable pub goodWord : List ℤ → Header → ℕ → List ℤ → ℕ → Bool
+goodWord s h f words i = goodWanted (outcomesAt s h i) (wantedAt s h f words i)
+
+unfoldable pub goodWords : List ℤ → Header → ℕ → List ℤ → Bool
+goodWords s h f words = allBelow (λ k. goodWord s h f words (firstStepOf s h f + k)) (stepsOf s h f)
+
+-- "an operation step answered 9, 10 or 11 .. takes the failure route", which is its last; "otherwise the route of its outcome"; 02: "in a
+-- flow 16 takes the failure route"
 unfoldable pub answerRoute : List ℤ → Header → ℕ → Count → ℕ
 answerRoute s h i (Is j) = firstRouteOf s h i + j
 answerRoute s h i (Refused r) = firstRouteOf s h i + routesOf s h i - 1
@@ -44,18 +64,18 @@ unfoldable pub branchRoute : List ℤ → Header → ℕ → Bool → ℕ
 branchRoute s h i true = firstRouteOf s h i
 branchRoute s h i false = firstRouteOf s h i + 1
 
--- the route that step i takes
-unfoldable pub routeTaken : List ℤ → Header → List ℤ → List ℤ → List ℤ → ℕ → ℕ
-routeTaken s h facts verdicts states i =
+-- the route that step i takes, where it wants w
+unfoldable pub routeTaken : List ℤ → Header → List ℤ → List ℤ → List ℤ → ℕ → Wanted → ℕ
+routeTaken s h facts verdicts states i w =
     elim (performs s h i) [
-      | true ↦ answerRoute s h i (attempted s h facts verdicts states (personaAt s h i) (operationAt s h i))
+      | true ↦ answerRoute s h i (attempted s h facts verdicts states (personaAt s h i) (operationAt s h i) w)
       | false ↦ branchRoute s h i (truth s h facts verdicts (nodeAt s h i))
     ]
 
 -- the states after step i: those after its operation, which a refusal leaves as they were; a branch changes none
-unfoldable pub statesThen : List ℤ → Header → List ℤ → List ℤ → List ℤ → ℕ → List ℤ
-statesThen s h facts verdicts states i =
-    elim (performs s h i) [ true ↦ attemptedStates s h facts verdicts states (personaAt s h i) (operationAt s h i) | false ↦ states ]
+unfoldable pub statesThen : List ℤ → Header → List ℤ → List ℤ → List ℤ → ℕ → Wanted → List ℤ
+statesThen s h facts verdicts states i w =
+    elim (performs s h i) [ true ↦ attemptedStates s h facts verdicts states (personaAt s h i) (operationAt s h i) w | false ↦ states ]
 
 -- ---- a run
 
@@ -69,37 +89,36 @@ pub record Running : Type 0 where
 unfoldable pub begun : List ℤ → Header → ℕ → List ℤ → Running
 begun s h f states = record { walker = started s h f; path = []; states = states }
 
--- "one step of a flow hands on the next step, or the terminal"; "earlier steps' changes remain"
-unfoldable pub stepped : List ℤ → Header → List ℤ → List ℤ → Running → Running
-stepped s h facts verdicts t =
+-- "one step of a flow hands on the next step, or the terminal"; "earlier steps' changes remain". `wants` says what each step wants
+unfoldable pub stepped : List ℤ → Header → List ℤ → List ℤ → (ℕ → Wanted) → Running → Running
+stepped s h facts verdicts wants t =
+    let i = t .walker .step in
+    let route = routeTaken s h facts verdicts (t .states) i (wants i) in
     record {
-      walker = taken s h (t .walker) (routeTaken s h facts verdicts (t .states) (t .walker .step));
-      path = t .path ++ routeTaken s h facts verdicts (t .states) (t .walker .step) ∷ [];
-      states = statesThen s h facts verdicts (t .states) (t .walker .step);
+      walker = taken s h (t .walker) route;
+      path = t .path ++ route ∷ [];
+      states = statesThen s h facts verdicts (t .states) i (wants i);
     }
 
 -- step by step until it is finished, n steps at most
-unfoldable pub runOn : List ℤ → Header → List ℤ → List ℤ → ℕ → Running → Running
-runOn s h facts verdicts zero t = t
-runOn s h facts verdicts (suc n) t = elim (t .walker .finished) [ true ↦ t | false ↦ runOn s h facts verdicts n (stepped s h facts verdicts t) ]
+unfoldable pub runOn : List ℤ → Header → List ℤ → List ℤ → (ℕ → Wanted) → ℕ → Running → Running
+runOn s h facts verdicts wants zero t = t
+runOn s h facts verdicts wants (suc n) t =
+    elim (t .walker .finished) [ true ↦ t | false ↦ runOn s h facts verdicts wants n (stepped s h facts verdicts wants t) ]
 
 -- "a run ends within as many steps as the flow has"
-unfoldable pub ran : List ℤ → Header → List ℤ → List ℤ → List ℤ → ℕ → Running
-ran s h facts verdicts states f = runOn s h facts verdicts (stepsOf s h f) (begun s h f states)
+unfoldable pub ran : List ℤ → Header → List ℤ → List ℤ → List ℤ → ℕ → (ℕ → Wanted) → Running
+ran s h facts verdicts states f wants = runOn s h facts verdicts wants (stepsOf s h f) (begun s h f states)
 
--- ---- what is answered and left
+-- ---- what is answered and left, of the words that are lent
 
 -- the terminal and the path's length
-unfoldable pub ranWalk : List ℤ → Header → List ℤ → List ℤ → List ℤ → ℕ → Walk
-ranWalk s h facts verdicts states f = arrived (ran s h facts verdicts states f .walker)
+unfoldable pub ranWalk : List ℤ → Header → List ℤ → List ℤ → List ℤ → ℕ → List ℤ → Walk
+ranWalk s h facts verdicts states f words = arrived (ran s h facts verdicts states f (wantedAt s h f words) .walker)
 
 -- the path, and 0 past it
-unfoldable pub ranPath : List ℤ → Header → List ℤ → List ℤ → List ℤ → ℕ → List ℕ → List ℕ
-ranPath s h facts verdicts states f b = laid (ran s h facts verdicts states f .path) b
+unfoldable pub ranPath : List ℤ → Header → List ℤ → List ℤ → List ℤ → ℕ → List ℤ → List ℕ → List ℕ
+ranPath s h facts verdicts states f words b = laid (ran s h facts verdicts states f (wantedAt s h f words) .path) b
 
-unfoldable pub ranStates : List ℤ → Header → List ℤ → List ℤ → List ℤ → ℕ → List ℤ
-ranStates s h facts verdicts states f = ran s h facts verdicts states f .states
-
--- ---- what is asked
-
--- ---- what is shown
+unfoldable pub ranStates : List ℤ → Header → List ℤ → List ℤ → List ℤ → ℕ → List ℤ → List ℤ
+ranStates s h facts verdicts states f words = ran s h facts verdicts states f (wantedAt s h f words) .states

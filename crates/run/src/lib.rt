@@ -2,16 +2,21 @@
 ghost use mathlib.Core.Path.{_≡_};
 ghost use mathlib.Core.Bool.{true, false, _&&_};
 ghost use Prim.Native.Nat.{_+_, _<_};
+ghost use lib.IntN.{pos};
+ghost use lib.ListN.{length, getD};
 ghost use Rattle.words.specs.Record.{number};
 ghost use Rattle.layout.specs.Header.{firstStep};
 ghost use Rattle.layout.specs.Sized.{Sized};
+ghost use Rattle.records.specs.Accepted.{Accepted};
 ghost use Rattle.predicate.specs.Values.{truth};
 ghost use Rattle.predicate.specs.Inner.{Evaluable};
 ghost use Rattle.operation.specs.Mask.{allowed};
 ghost use Rattle.operation.specs.Inner.{StatesIn};
+ghost use Rattle.operation.specs.Outcomes.{wantedOf};
 ghost use Rattle.attempt.specs.Attempts.{precondition, attempted, attemptedStates};
+ghost use Rattle.walks.specs.Paths.{stepsOf};
 ghost use Rattle.run.specs.Memo.{Memo};
-ghost use Rattle.run.specs.Runs.{performs, operationAt, personaAt, nodeAt, answerRoute, branchRoute, routeTaken, statesThen, ranWalk, ranPath, ranStates};
+ghost use Rattle.run.specs.Runs.{performs, operationAt, personaAt, nodeAt, outcomesAt, goodWords, answerRoute, branchRoute, routeTaken, statesThen, ranWalk, ranPath, ranStates};
 ghost use Rattle.run.specs.Inner.{Steppable, Runnable};
 use answer::Count;
 use answer::Walk;
@@ -23,11 +28,16 @@ use layout::Node;
 use layout::Operation;
 use layout::Persona;
 use layout::place;
+use operation::Wanted;
 use operation::allows;
+use operation::good_wanted;
+use operation::wanted_of;
 use predicate::is_true;
+use records::outcomes_of;
 use walks::Walker;
 use walks::clear;
 use walks::first_route;
+use walks::first_step;
 use walks::routes;
 use words::number;
 
@@ -81,12 +91,13 @@ fn perform_step(
     known: &mut [bool],
     holds: &mut [bool],
     step: usize,
+    wanted: Wanted,
 ) -> usize
     requires { ⌜ Steppable (now s) h (now facts) (now verdicts) step ⌝ }
     requires { ⌜ StatesIn (now s) h (now states) × (performs (now s) h step ≡ true) ⌝ }
     requires { ⌜ Memo (now s) h (now facts) (now verdicts) (now known) (now holds) ⌝ }
-    ensures { λ r. ⌜ r ≡ answerRoute (now (s .entry)) h step (attempted (now (s .entry)) h (now (facts .entry)) (now (verdicts .entry)) (now (states .entry)) (personaAt (now (s .entry)) h step) (operationAt (now (s .entry)) h step)) ⌝ }
-    ensures { λ r. ⌜ now (states .exit) ≡ attemptedStates (now (s .entry)) h (now (facts .entry)) (now (verdicts .entry)) (now (states .entry)) (personaAt (now (s .entry)) h step) (operationAt (now (s .entry)) h step) ⌝ }
+    ensures { λ r. ⌜ r ≡ answerRoute (now (s .entry)) h step (attempted (now (s .entry)) h (now (facts .entry)) (now (verdicts .entry)) (now (states .entry)) (personaAt (now (s .entry)) h step) (operationAt (now (s .entry)) h step) wanted) ⌝ }
+    ensures { λ r. ⌜ now (states .exit) ≡ attemptedStates (now (s .entry)) h (now (facts .entry)) (now (verdicts .entry)) (now (states .entry)) (personaAt (now (s .entry)) h step) (operationAt (now (s .entry)) h step) wanted ⌝ }
     ensures { λ r. ⌜ Memo (now (s .entry)) h (now (facts .entry)) (now (verdicts .entry)) (now (known .exit)) (now (holds .exit)) ⌝ }
 {
     let first = first_route(s, h, step);
@@ -94,7 +105,7 @@ fn perform_step(
     let o = Operation(step_word(s, h, step, place::STEP_OPERATION));
     let p = Persona(step_word(s, h, step, place::STEP_PERSONA));
     let b = recall(s, h, facts, verdicts, known, holds, p, o);
-    match attempt_known(s, h, b, states, p, o) {
+    match attempt_known(s, h, b, states, p, o, wanted) {
         Count::Is(j) => first + j,
         Count::Refused(_) => first + count - 1,
     }
@@ -125,19 +136,61 @@ fn advance(
     known: &mut [bool],
     holds: &mut [bool],
     step: usize,
+    wanted: Wanted,
 ) -> usize
     requires { ⌜ Steppable (now s) h (now facts) (now verdicts) step ⌝ }
     requires { ⌜ StatesIn (now s) h (now states) ⌝ }
     requires { ⌜ Memo (now s) h (now facts) (now verdicts) (now known) (now holds) ⌝ }
-    ensures { λ r. ⌜ r ≡ routeTaken (now (s .entry)) h (now (facts .entry)) (now (verdicts .entry)) (now (states .entry)) step ⌝ }
-    ensures { λ r. ⌜ now (states .exit) ≡ statesThen (now (s .entry)) h (now (facts .entry)) (now (verdicts .entry)) (now (states .entry)) step ⌝ }
+    ensures { λ r. ⌜ r ≡ routeTaken (now (s .entry)) h (now (facts .entry)) (now (verdicts .entry)) (now (states .entry)) step wanted ⌝ }
+    ensures { λ r. ⌜ now (states .exit) ≡ statesThen (now (s .entry)) h (now (facts .entry)) (now (verdicts .entry)) (now (states .entry)) step wanted ⌝ }
     ensures { λ r. ⌜ Memo (now (s .entry)) h (now (facts .entry)) (now (verdicts .entry)) (now (known .exit)) (now (holds .exit)) ⌝ }
 {
     if step_word(s, h, step, place::STEP_KIND) == 0 {
-        perform_step(s, h, facts, verdicts, states, known, holds, step)
+        perform_step(s, h, facts, verdicts, states, known, holds, step, wanted)
     } else {
         branch(s, h, facts, verdicts, step)
     }
+}
+
+// What the word of a flow's step i wants, counted from its first.
+fn wanted_at(words: &[i64], i: usize) -> Wanted
+    requires { ⌜ i < length (now words) ⌝ }
+    ensures { λ r. ⌜ r ≡ wantedOf (getD (now (words .entry)) i (pos 0)) ⌝ }
+{
+    wanted_of(words[i])
+}
+
+// How many outcomes a step may want: a branch has none.
+fn outcomes_at(s: &[i64], h: Header, step: usize) -> usize
+    requires { ⌜ Accepted (now s) h ⌝ }
+    requires { ⌜ step < h .steps ⌝ }
+    ensures { λ r. ⌜ r ≡ outcomesAt (now (s .entry)) h step ⌝ }
+{
+    if step_word(s, h, step, place::STEP_KIND) != 0 {
+        return 0;
+    }
+    outcomes_of(
+        s,
+        h,
+        Operation(step_word(s, h, step, place::STEP_OPERATION)),
+    )
+}
+
+// Whether each step's word is −1 or one of its outcomes, of all the flow's steps.
+pub fn good_words(s: &[i64], h: Header, flow: Flow, words: &[i64]) -> bool
+    requires { ⌜ Accepted (now s) h × (flow .0 < h .flows) ⌝ }
+    requires { ⌜ length (now words) ≡ stepsOf (now s) h (flow .0) ⌝ }
+    ensures { λ b. ⌜ b ≡ goodWords (now (s .entry)) h (flow .0) (now (words .entry)) ⌝ }
+{
+    let first = first_step(s, h, flow);
+    let mut k = 0;
+    while k < words.len() {
+        if !good_wanted(outcomes_at(s, h, first + k), wanted_at(words, k)) {
+            return false;
+        }
+        k += 1;
+    }
+    true
 }
 
 // Takes the route of each step that it comes to, until it comes to a terminal.
@@ -148,18 +201,22 @@ pub fn run(
     verdicts: &[i64],
     states: &mut [i64],
     flow: Flow,
+    wanted: &[i64],
     path: &mut [u16],
 ) -> Walk
     requires { ⌜ Runnable (now s) h (now facts) (now verdicts) (now states) (flow .0) (now path) ⌝ }
-    ensures { λ r. ⌜ r ≡ ranWalk (now (s .entry)) h (now (facts .entry)) (now (verdicts .entry)) (now (states .entry)) (flow .0) ⌝ }
-    ensures { λ r. ⌜ now (path .exit) ≡ ranPath (now (s .entry)) h (now (facts .entry)) (now (verdicts .entry)) (now (states .entry)) (flow .0) (now (path .entry)) ⌝ }
-    ensures { λ r. ⌜ now (states .exit) ≡ ranStates (now (s .entry)) h (now (facts .entry)) (now (verdicts .entry)) (now (states .entry)) (flow .0) ⌝ }
+    requires { ⌜ length (now wanted) ≡ stepsOf (now s) h (flow .0) ⌝ }
+    ensures { λ r. ⌜ r ≡ ranWalk (now (s .entry)) h (now (facts .entry)) (now (verdicts .entry)) (now (states .entry)) (flow .0) (now (wanted .entry)) ⌝ }
+    ensures { λ r. ⌜ now (path .exit) ≡ ranPath (now (s .entry)) h (now (facts .entry)) (now (verdicts .entry)) (now (states .entry)) (flow .0) (now (wanted .entry)) (now (path .entry)) ⌝ }
+    ensures { λ r. ⌜ now (states .exit) ≡ ranStates (now (s .entry)) h (now (facts .entry)) (now (verdicts .entry)) (now (states .entry)) (flow .0) (now (wanted .entry)) ⌝ }
 {
     let mut known = [false; Header::OPERATIONS];
     let mut holds = [false; Header::OPERATIONS];
     let mut w = Walker::start(s, h, flow);
+    let first = w.step;
     while !w.finished {
         let at = w.length;
+        let want = wanted_at(wanted, w.step - first);
         let route = advance(
             s,
             h,
@@ -169,6 +226,7 @@ pub fn run(
             &mut known,
             &mut holds,
             w.step,
+            want,
         );
         path[at] = route as u16;
         w = w.take(s, h, route);

@@ -5,19 +5,21 @@ use mathlib.Core.Path.{_≡_, refl, sym, subst}
 use mathlib.Core.Bool.{true, false}
 use mathlib.Core.List.{List, [], _∷_, _++_, append-nil}
 use mathlib.Core.Logic.{_⊎_, inl, inr}
-use Prim.Native.Nat.{ℕ, _≤_}
+use Prim.Native.Nat.{ℕ, _≤_, _<_}
 use native.Mathlib.Omega.{arith}
 use lib.IntN.{ℤ}
 use lib.ListN.{length, length-append}
 use lib.Seq.{append-snoc}
 use Rattle.tables.proofs.Bools.{true-false}
 use Rattle.layout.specs.declared.Header.{Header}
+use Rattle.records.specs.Flows.{stepsEnd}
+use Rattle.records.proofs.FlowLaws.{flow-ok}
 use Rattle.walks.specs.declared.Walker.{Walker}
-use Rattle.walks.specs.Paths.{stepsOf, target, RouteOf, PathFrom, last, next, PathOf, paths, Among}
+use Rattle.walks.specs.Paths.{firstStepOf, stepsOf, target, RouteOf, PathFrom, last, next, PathOf, paths, Among}
 use Rattle.walks.specs.Walkers.{started, taken, arrived}
 use Rattle.walks.specs.Inner.{walked, Way, Going, Lent}
 use Rattle.walks.specs.Follows.{walkOf}
-use Rattle.walks.proofs.Ways.{kind-ends, kind-leads}
+use Rattle.walks.proofs.Ways.{kind-ends, kind-leads, way-later}
 use Rattle.walks.proofs.AllPaths.{paths-short, path-number}
 use Rattle.walks.proofs.Walks.{start-going, going-on, arrives}
 
@@ -36,6 +38,16 @@ module _ {s : List ℤ} {h : Header} {f : ℕ} {b : List ℕ} (u : Lent s h f b)
   pub trail-going : {p : List ℕ} {w : Walker} → Trail s h f p w → Going s h w (length b)
   trail-going begun = start-going u
   trail-going (went t e r o) = going-on (trail-going t) e r o
+
+  -- until it is finished it stands at a step of the flow
+  pub trail-in : {p : List ℕ} {w : Walker} → Trail s h f p w → w .finished ≡ false → (firstStepOf s h f ≤ w .step) × (w .step < stepsEnd s h f)
+  unfolding started taken
+  trail-in begun e = (omega arith, omega (arith, flow-ok s h (u .sheet) f (u .flow) .some))
+  trail-in (went {w = w} t e r o) k =
+      let z = trail-in t e in
+      let y : Way s h (w .step) (stepsEnd s h f) = record { of = f; exists = u .flow; low = z .0; high = z .1; left = omega arith } in
+      let l = way-later s h (u .sheet) y r o k in
+      (omega arith, l .1)
 
   -- a route of an unfinished walk, with what leads on from there
   route-path : (w : Walker) {n : ℕ} → Way s h (w .step) n → (r : ℕ) → RouteOf s h (w .step) r → (q : List ℕ) → Ending s h (taken s h w r) q

@@ -42,7 +42,9 @@ struct Desk {
     states: Vec<i64>,
     persona: i64,
     operation: i64,
+    wanted: i64,
     run_flow: i64,
+    run_wanted: Vec<i64>,
     entity: i64,
     from: i64,
     to: i64,
@@ -186,6 +188,16 @@ fn sample(call: &mut Box<dyn FnMut() -> [i64; 4]>, calls: usize) -> f64 {
     start.elapsed().as_nanos() as f64
 }
 
+/// A wanted outcome for each operation step of a flow, -1 for a branch.
+fn wanted_of(sheet: &Sheet, flow: usize, random: &mut Random) -> Vec<i64> {
+    let (first, steps) = sheet.steps_of(flow);
+    let words = sheet.tables[STEPS][first..first + steps].iter().map(|&[kind, what, ..]| match kind {
+        0 => random.below(sheet.tables[OPERATIONS][what as usize][4] as usize) as i64,
+        _ => -1,
+    });
+    words.collect()
+}
+
 impl Desk {
     fn random(eighths: usize) -> Desk {
         Desk::of(&generate::full(eighths, &mut Random::new(1)), 2)
@@ -202,21 +214,23 @@ impl Desk {
         let given = vec![1; sheet.count(FACTS)];
         let steps = (0..sheet.count(FLOWS)).map(|flow| sheet.steps_of(flow).1).max().unwrap_or(0);
 
-        let (mut values, mut run_flow, mut longest) = (vec![], 0, -1);
+        let (mut values, mut run_flow, mut run_wanted, mut longest) = (vec![], 0, vec![], -1);
         for _ in 0..400 {
             let tried: Vec<i64> = (0..given.len()).map(|fact| sheet.value_of(fact, &mut random)).collect();
             let flow = random.below(sheet.count(FLOWS)) as i64;
-            let run = reference::run(&words, &tried, &given, &mut states.clone(), flow, &mut vec![0; steps]);
+            let wanted = wanted_of(sheet, flow as usize, &mut random);
+            let run = reference::run(&words, &tried, &given, &mut states.clone(), flow, &wanted, &mut vec![0; steps]);
             if run.length > longest {
-                (values, run_flow, longest) = (tried, flow, run.length);
+                (values, run_flow, run_wanted, longest) = (tried, flow, wanted, run.length);
             }
         }
-        let (mut persona, mut operation) = (0, 0);
+        let (mut persona, mut operation, mut wanted) = (0, 0, -1);
         for _ in 0..2000 {
             let tried = (random.below(sheet.count(PERSONAS)) as i64, random.below(sheet.count(OPERATIONS)) as i64);
-            let answer = reference::operate(&words, &values, &given, &mut states.clone(), tried.0, tried.1);
+            let word = random.below(sheet.tables[OPERATIONS][tried.1 as usize][4] as usize) as i64;
+            let answer = reference::operate(&words, &values, &given, &mut states.clone(), tried.0, tried.1, word);
             if answer.refusal == 0 {
-                (persona, operation) = tried;
+                (persona, operation, wanted) = (tried.0, tried.1, word);
                 break;
             }
         }
@@ -228,7 +242,9 @@ impl Desk {
             rules: sheet.count(generate::RULES),
             persona,
             operation,
+            wanted,
             run_flow,
+            run_wanted,
             entity,
             from,
             to,
@@ -290,11 +306,19 @@ fn cases(desk: &'static Desk) -> Vec<Case> {
         }),
         case!("operate", 0, [states = desk.states.clone()], |side| {
             states.copy_from_slice(&desk.states);
-            side::operate(&desk.words, &desk.values, &desk.given, &mut states, desk.persona, desk.operation)
+            side::operate(
+                &desk.words,
+                &desk.values,
+                &desk.given,
+                &mut states,
+                desk.persona,
+                desk.operation,
+                desk.wanted,
+            )
         }),
         case!("run", 0, [states = desk.states.clone(), path = vec![0u16; desk.steps]], |side| {
             states.copy_from_slice(&desk.states);
-            side::run(&desk.words, &desk.values, &desk.given, &mut states, desk.run_flow, &mut path)
+            side::run(&desk.words, &desk.values, &desk.given, &mut states, desk.run_flow, &desk.run_wanted, &mut path)
         }),
         case!("first", 0, [path = vec![0u16; desk.steps]], |side| {
             side::first(&desk.words, desk.long_flow, &mut path)

@@ -73,6 +73,8 @@ fn attempt(call: &str, sheet: &str, bytes: usize) {
     let length = reference::write_text(&words, &mut text).value as usize;
     let written = text[..length].to_vec();
     reference::first(&words, 0, &mut path);
+    let steps = if sheet.count(FLOWS) == 0 { 0 } else { sheet.steps_of(0).1 };
+    let wanted = vec![-1; steps];
     // The last node is the top of a chain; on the largest sheet the largest tree.
     let size = |node: &i64| reference::tree_size(&words, *node).value;
     let node = (0..sheet.count(NODES) as i64).max_by_key(size).unwrap_or(0);
@@ -83,8 +85,8 @@ fn attempt(call: &str, sheet: &str, bytes: usize) {
         "write_text" => raw::write_text(&words, &mut text),
         "assemble" => raw::assemble(&words, &mut assembled, &given),
         "verdicts" => raw::verdicts(&words, &values, &given, &mut verdicts),
-        "operate" => raw::operate(&words, &values, &given, &mut states, 0, 0),
-        "run" => raw::run(&words, &values, &given, &mut states, 0, &mut path),
+        "operate" => raw::operate(&words, &values, &given, &mut states, 0, 0, -1),
+        "run" => raw::run(&words, &values, &given, &mut states, 0, &wanted, &mut path),
         "first" => raw::first(&words, 0, &mut path),
         "next" => raw::next(&words, 0, &mut path),
         "states" => raw::states(&words, 0),

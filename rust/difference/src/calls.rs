@@ -47,7 +47,7 @@ impl Call {
             Call::Check | Call::Rules => &[0, 1, 2, 3],
             Call::ReadText | Call::WriteText => &[0, 14, 15],
             Call::Assemble | Call::Verdicts => &[0, 1, 2, 3, 4, 6, 7],
-            Call::Operate => &[0, 1, 2, 3, 4, 5, 6, 7, 8, 9, 10, 11],
+            Call::Operate => &[0, 1, 2, 3, 4, 5, 6, 7, 8, 9, 10, 11, 16],
             Call::Run => &[0, 1, 2, 3, 4, 5, 6, 7, 8],
             Call::First => &[0, 1, 2, 3, 4, 5],
             Call::Next => &[0, 1, 2, 3, 4, 5, 12, 13],
@@ -56,9 +56,12 @@ impl Call {
     }
 }
 
+/// The numbers of refusals, 0 among them.
+const REFUSALS: usize = 17;
+
 /// How often each call gave each refusal.
 #[derive(Clone, Default)]
-pub struct Reached([[u64; 16]; 18]);
+pub struct Reached([[u64; REFUSALS]; 18]);
 
 impl Reached {
     pub fn count(&mut self, call: Call, refusal: i64) {
@@ -88,12 +91,12 @@ impl Reached {
 impl fmt::Display for Reached {
     fn fmt(&self, f: &mut fmt::Formatter) -> fmt::Result {
         write!(f, "{:<11}", "")?;
-        for refusal in 0..16 {
+        for refusal in 0..REFUSALS as i64 {
             write!(f, "{refusal:>10}")?;
         }
         for call in Call::ALL {
             write!(f, "\n{:<11}", call.name())?;
-            for refusal in 0..16 {
+            for refusal in 0..REFUSALS as i64 {
                 match call.possible().contains(&refusal) {
                     true => write!(f, "{:>10}", self.0[call as usize][refusal as usize])?,
                     false => write!(f, "{:>10}", ".")?,

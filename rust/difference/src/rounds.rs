@@ -74,6 +74,14 @@ macro_rules! typed {
     }};
 }
 
+/// A wanted word as the wrappers take it; none of what they cannot be given.
+fn option(word: i64) -> Option<Option<usize>> {
+    match word {
+        -1 => Some(None),
+        _ => natural(word).map(Some),
+    }
+}
+
 impl Round<'_> {
     fn accepted(&mut self, words: &[i64]) -> Done {
         self.comparer.check(words)?;
@@ -249,6 +257,48 @@ impl Round<'_> {
         Lent::new(&states, &mut self.random)
     }
 
+    /// A wanted word: none, or an outcome of the operation; seldom another number.
+    fn wanted(&mut self, operation: i64) -> i64 {
+        let record = natural(operation).and_then(|operation| self.sheet.tables[OPERATIONS].get(operation));
+        let outcomes = record.map_or(1, |record| record[4]) as usize;
+        match self.random.below(48) {
+            0 => outcomes as i64,
+            1 => -2,
+            2 => hostile(&mut self.random, -1),
+            3..=20 => -1,
+            _ => self.random.below(outcomes) as i64,
+        }
+    }
+
+    /// A wanted word for each step of a flow, mostly as many as it has and mostly good.
+    fn wanted_of_steps(&mut self, flow: i64) -> Lent<i64> {
+        let own = natural(flow).filter(|&flow| flow < self.sheet.count(FLOWS));
+        let (first, steps) = own.map_or((0, 0), |flow| self.sheet.steps_of(flow));
+        let mut wanted: Vec<i64> = vec![];
+        for step in first..first + steps {
+            let [kind, what, ..] = self.sheet.tables[STEPS][step];
+            let outcomes = match kind {
+                0 => self.sheet.tables[OPERATIONS][what as usize][4] as usize,
+                _ => 0,
+            };
+            wanted.push(match outcomes {
+                0 => -1,
+                _ if self.random.chance(1, 3) => -1,
+                _ => self.random.below(outcomes) as i64,
+            });
+        }
+        if steps > 0 && self.random.chance(1, 8) {
+            let step = self.random.below(steps);
+            wanted[step] = match self.random.below(4) {
+                0 => -2,
+                1 => hostile(&mut self.random, -1),
+                _ => self.random.below(9) as i64,
+            };
+        }
+        wanted.resize(self.length(steps), -1);
+        Lent::new(&wanted, &mut self.random)
+    }
+
     /// A path buffer: a path of this flow or another, cut or changed or not, or rubbish; mostly long enough.
     fn path(&mut self, flow: i64) -> Lent<u16> {
         let flows = self.sheet.count(FLOWS);
@@ -345,19 +395,21 @@ impl Round<'_> {
         let (v, g) = self.facts();
         let operation = self.number(OPERATIONS);
         let persona = self.persona(operation);
+        let wanted = self.wanted(operation);
         let mut buffers = (v, g, states.clone());
         self.comparer.compare(
             Call::Operate,
             &mut buffers,
-            |(v, g, s)| reference::operate(words, v.slice(), g.slice(), s.lend(), persona, operation),
-            |(v, g, s)| raw::operate(words, v.slice(), g.slice(), s.lend(), persona, operation),
+            |(v, g, s)| reference::operate(words, v.slice(), g.slice(), s.lend(), persona, operation, wanted),
+            |(v, g, s)| raw::operate(words, v.slice(), g.slice(), s.lend(), persona, operation, wanted),
             |(v, g, s)| {
+                let wanted = option(wanted)?;
                 typed!(
                     [persona, operation],
-                    fernpocket::operate(words, v.slice(), g.slice(), s.lend(), persona, operation)
+                    fernpocket::operate(words, v.slice(), g.slice(), s.lend(), persona, operation, wanted)
                 )
             },
-            || format!("persona {persona}, operation {operation}\n{}", show(words)),
+            || format!("persona {persona}, operation {operation}, wanted {wanted}\n{}", show(words)),
         )?;
         *states = buffers.2;
         Ok(())
@@ -366,13 +418,17 @@ impl Round<'_> {
     fn run(&mut self, words: &[i64], states: &mut Lent<i64>) -> Done {
         let (v, g) = self.facts();
         let flow = self.number(FLOWS);
-        let mut buffers = (v, g, states.clone(), self.path(flow));
+        let wanted = self.wanted_of_steps(flow);
+        let mut buffers = (v, g, states.clone(), wanted, self.path(flow));
         self.comparer.compare(
             Call::Run,
             &mut buffers,
-            |(v, g, s, p)| reference::run(words, v.slice(), g.slice(), s.lend(), flow, p.lend()),
-            |(v, g, s, p)| raw::run(words, v.slice(), g.slice(), s.lend(), flow, p.lend()),
-            |(v, g, s, p)| typed!([flow], fernpocket::run(words, v.slice(), g.slice(), s.lend(), flow, p.lend())),
+            |(v, g, s, w, p)| reference::run(words, v.slice(), g.slice(), s.lend(), flow, w.slice(), p.lend()),
+            |(v, g, s, w, p)| raw::run(words, v.slice(), g.slice(), s.lend(), flow, w.slice(), p.lend()),
+            |(v, g, s, w, p)| {
+                let wanted = w.slice().iter().copied().map(option).collect::<Option<Vec<_>>>()?;
+                typed!([flow], fernpocket::run(words, v.slice(), g.slice(), s.lend(), flow, &wanted, p.lend()))
+            },
             || format!("flow {flow}\n{}", show(words)),
         )?;
         *states = buffers.2;

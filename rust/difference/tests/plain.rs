@@ -96,8 +96,8 @@ fn values(sheet: &Sheet, facts: &[i64], verdicts: &[i64]) -> Vec<i64> {
 
 #[test]
 fn verdicts_runs_and_operations_by_the_definition() {
-    let (mut runs, mut moves) = (0, 0);
-    for (sheet, words, mut random) in sheets(1500) {
+    let (mut runs, mut moves, mut several) = (0, 0, 0);
+    for (sheet, words, mut random) in sheets(2500) {
         let facts: Vec<i64> = (0..sheet.count(FACTS)).map(|fact| sheet.value_of(fact, &mut random)).collect();
         let given = vec![1; facts.len()];
         // Stratum by stratum; a rule cites lower strata only.
@@ -121,6 +121,14 @@ fn verdicts_runs_and_operations_by_the_definition() {
         for flow in 0..sheet.count(FLOWS) {
             // The run, step by step with the public operation.
             let (first, steps) = sheet.steps_of(flow);
+            let wanted: Vec<i64> = sheet.tables[STEPS][first..first + steps]
+                .iter()
+                .map(|&[kind, what, ..]| match kind {
+                    0 => random.below(1 + sheet.tables[OPERATIONS][what as usize][4] as usize) as i64 - 1,
+                    _ => -1,
+                })
+                .collect();
+            let first_step = first;
             let mut states = start.clone();
             let mut path = vec![];
             let mut step = first;
@@ -130,9 +138,11 @@ fn verdicts_runs_and_operations_by_the_definition() {
                     first + 1 - of[what as usize]
                 } else {
                     let before = states.clone();
-                    let answer = reference::operate(&words, &facts, &given, &mut states, persona, what);
-                    check_operation(&sheet, &of, what as usize, persona, &before, &states, answer);
+                    let wanted = wanted[step - first_step];
+                    let answer = reference::operate(&words, &facts, &given, &mut states, persona, what, wanted);
+                    check_operation(&sheet, &of, (what as usize, wanted), persona, &before, &states, answer);
                     moves += (answer.refusal == 0) as usize;
+                    several += (answer.refusal == 16) as usize;
                     if answer.refusal == 0 {
                         first + answer.value
                     } else {
@@ -146,7 +156,7 @@ fn verdicts_runs_and_operations_by_the_definition() {
                 }
             };
             let (mut left, mut buffer) = (start.clone(), vec![5; steps]);
-            let answer = reference::run(&words, &facts, &given, &mut left, flow as i64, &mut buffer);
+            let answer = reference::run(&words, &facts, &given, &mut left, flow as i64, &wanted, &mut buffer);
             assert_eq!(answer, Answer { value: terminal, length: path.len() as i64, ..Answer::default() });
             path.resize(steps, 0);
             assert_eq!((left, buffer), (states, path));
@@ -154,13 +164,14 @@ fn verdicts_runs_and_operations_by_the_definition() {
         }
     }
     assert!(runs > 1000 && moves > 1000, "{runs} runs, {moves} operations that went through");
+    assert!(several > 100, "{several} operations with several applicable outcomes");
 }
 
 /// An operation's answer and states by the definition, and S3a and S4 of what it did.
 fn check_operation(
     sheet: &Sheet,
     of: &[i64],
-    operation: usize,
+    (operation, wanted): (usize, i64),
     persona: i64,
     before: &[i64],
     after: &[i64],
@@ -173,12 +184,15 @@ fn check_operation(
     let applicable = |outcome: &i64| {
         of_outcome(*outcome).all(|named| of_outcome(*outcome).any(|other| other[0] == named[0] && starts(other)))
     };
+    let applicable: Vec<i64> = (0..outcomes).filter(applicable).collect();
     let mut expected = before.to_vec();
     let refusal = if mask >> persona & 1 == 0 {
         9
     } else if of[precondition as usize] == 0 {
         10
-    } else if let Some(outcome) = (0..outcomes).find(applicable) {
+    } else if wanted == -1 && applicable.len() > 1 {
+        16
+    } else if let Some(&outcome) = applicable.iter().find(|&&outcome| wanted == -1 || outcome == wanted) {
         assert_eq!(answer.value, outcome);
         let words = sheet.words();
         for effect in of_outcome(outcome).filter(|effect| starts(effect)) {

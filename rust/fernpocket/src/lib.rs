@@ -15,6 +15,7 @@
 //! | `given` | for each fact 1 where its value is given, 0 where it is not | the sheet's facts, exactly |
 //! | `verdicts` | the verdict of each rule, 1 or 0 | the sheet's rules, exactly |
 //! | `states` | the present state of each entity | the sheet's entities, exactly |
+//! | `wanted` | for each step of the flow the outcome that is wanted of its operation; none leaves it to the states | the flow's steps, exactly |
 //! | `path` | the numbers of the routes taken, then zeros | the flow's steps or more; 256 always serves |
 //!
 //! A call needs up to [`STACK`] bytes of stack, whatever the sheet.
@@ -25,9 +26,9 @@
 //! let mut sheet = example::sheet();
 //! assert_eq!(check(&sheet), Ok(()));
 //!
-//! // Fact 0 is given as 1; entity 0 is in state 0.
+//! // Fact 0 is given as 1; entity 0 is in state 0; step 0 is a branch; of the operation of step 1 outcome 0 is wanted.
 //! let (mut states, mut path) = ([0], [0; 2]);
-//! let end = run(&sheet, &[1], &[1], &mut states, 0, &mut path)?;
+//! let end = run(&sheet, &[1], &[1], &mut states, 0, &[None, Some(0)], &mut path)?;
 //! assert_eq!(end, Path { terminal: Terminal::Success, length: 2 });
 //! assert_eq!((states, path), ([1], [0, 2]));
 //!
@@ -71,7 +72,7 @@ fn accepted(answer: Answer) -> Result<Answer, Refusal> {
     if answer.refusal == 0 {
         return Ok(answer);
     }
-    Err(Refusal::from_numbers(answer.refusal, answer.place as usize).expect("a refusal has a number of 1 to 15"))
+    Err(Refusal::from_numbers(answer.refusal, answer.place as usize).expect("a refusal has a number of 1 to 16"))
 }
 
 fn done(answer: Answer) -> Result<(), Refusal> {
@@ -96,6 +97,11 @@ fn path_of(answer: Answer) -> Result<Path, Refusal> {
 /// A number for C. One past i64 becomes one that never exists.
 fn number(number: usize) -> i64 {
     i64::try_from(number).unwrap_or(i64::MAX)
+}
+
+/// A wanted outcome for C, which has -1 for none.
+fn wanted_word(wanted: Option<usize>) -> i64 {
+    wanted.map_or(-1, number)
 }
 
 /// Checks a sheet: `Ok` where it is accepted.
@@ -197,20 +203,23 @@ pub fn verdicts(sheet: &[i64], values: &[i64], given: &[i64], verdicts: &mut [i6
     done(raw::verdicts(sheet, values, given, verdicts))
 }
 
-/// Performs an operation on the states and answers the outcome. The states are then those after the outcome.
+/// Performs an operation on the states and answers the outcome: the wanted one, or where none is wanted the only one that
+/// applies. The states are then those after the outcome.
 ///
 /// Refused for a sheet's refusals, [`Refusal::Length`], [`Refusal::Missing`], [`Refusal::FactValue`],
-/// [`Refusal::FactAbsent`], [`Refusal::State`], [`Refusal::Persona`], [`Refusal::Precondition`] and
-/// [`Refusal::NoOutcome`].
+/// [`Refusal::FactAbsent`], [`Refusal::State`], [`Refusal::Persona`], [`Refusal::Precondition`],
+/// [`Refusal::NoOutcome`] and [`Refusal::ManyOutcomes`].
 ///
 /// ```
 /// use fernpocket::{example, operate, Refusal};
 ///
 /// let sheet = example::sheet();
 /// let mut states = [0];
-/// assert_eq!(operate(&sheet, &[1], &[1], &mut states, 0, 0), Ok(0));
-/// assert_eq!(states, [1]);
-/// assert_eq!(operate(&sheet, &[1], &[1], &mut states, 0, 0), Err(Refusal::NoOutcome));
+/// // Both outcomes apply to state 0.
+/// assert_eq!(operate(&sheet, &[1], &[1], &mut states, 0, 0, None), Err(Refusal::ManyOutcomes));
+/// assert_eq!(operate(&sheet, &[1], &[1], &mut states, 0, 0, Some(1)), Ok(1));
+/// assert_eq!(states, [2]);
+/// assert_eq!(operate(&sheet, &[1], &[1], &mut states, 0, 0, Some(1)), Err(Refusal::NoOutcome));
 /// # Ok::<(), fernpocket::Refusal>(())
 /// ```
 pub fn operate(
@@ -220,11 +229,13 @@ pub fn operate(
     states: &mut [i64],
     persona: usize,
     operation: usize,
+    wanted: Option<usize>,
 ) -> Result<usize, Refusal> {
-    value(raw::operate(sheet, values, given, states, number(persona), number(operation)))
+    value(raw::operate(sheet, values, given, states, number(persona), number(operation), wanted_word(wanted)))
 }
 
-/// Runs a flow: changes the states, and puts the path in the buffer.
+/// Runs a flow: changes the states, and puts the path in the buffer. For each step of the flow `wanted` has the outcome
+/// that is wanted of its operation, or none, as for a branch.
 ///
 /// A step that is refused takes its failure route; the run goes on, and what earlier steps changed remains. So a run that
 /// ends in [`Terminal::Failure`] is answered `Ok`.
@@ -236,7 +247,7 @@ pub fn operate(
 /// use fernpocket::{example, run, Path, Terminal};
 ///
 /// let (mut states, mut path) = ([1], [0; 2]);
-/// let end = run(&example::sheet(), &[1], &[1], &mut states, 0, &mut path)?;
+/// let end = run(&example::sheet(), &[1], &[1], &mut states, 0, &[None, None], &mut path)?;
 /// assert_eq!(end, Path { terminal: Terminal::Escalation, length: 2 });
 /// assert_eq!((states, path), ([1], [0, 4]));
 /// # Ok::<(), fernpocket::Refusal>(())
@@ -247,9 +258,14 @@ pub fn run(
     given: &[i64],
     states: &mut [i64],
     flow: usize,
+    wanted: &[Option<usize>],
     path: &mut [u16],
 ) -> Result<Path, Refusal> {
-    path_of(raw::run(sheet, values, given, states, number(flow), path))
+    // No flow has more than 256 steps, so a longer slice is as wrong as one of 257.
+    let mut words = [-1; 257];
+    words.iter_mut().zip(wanted).for_each(|(word, &wanted)| *word = wanted_word(wanted));
+    let count = wanted.len().min(words.len());
+    path_of(raw::run(sheet, values, given, states, number(flow), &words[..count], path))
 }
 
 /// S6: puts a flow's first path in the buffer, whatever that holds.

@@ -33,12 +33,12 @@ mod linked {
         pub fn fernpocket_operate(
             sheet: *const i64, sheet_len: usize, values: *const i64, values_len: usize,
             given: *const i64, given_len: usize, states: *mut i64, states_len: usize,
-            persona: i64, operation: i64,
+            persona: i64, operation: i64, wanted: i64,
         ) -> Answer;
         pub fn fernpocket_run(
             sheet: *const i64, sheet_len: usize, values: *const i64, values_len: usize,
             given: *const i64, given_len: usize, states: *mut i64, states_len: usize,
-            flow: i64, path: *mut u16, path_len: usize,
+            flow: i64, wanted: *const i64, wanted_len: usize, path: *mut u16, path_len: usize,
         ) -> Answer;
         pub fn fernpocket_first(
             sheet: *const i64, sheet_len: usize, flow: i64, path: *mut u16, path_len: usize,
@@ -122,6 +122,7 @@ pub fn operate(
     states: &mut [i64],
     persona: i64,
     operation: i64,
+    wanted: i64,
 ) -> Answer {
     call!(
         fernpocket_operate,
@@ -134,12 +135,21 @@ pub fn operate(
         states.as_mut_ptr(),
         states.len(),
         persona,
-        operation
+        operation,
+        wanted
     )
 }
 
 /// See [`crate::run`].
-pub fn run(sheet: &[i64], values: &[i64], given: &[i64], states: &mut [i64], flow: i64, path: &mut [u16]) -> Answer {
+pub fn run(
+    sheet: &[i64],
+    values: &[i64],
+    given: &[i64],
+    states: &mut [i64],
+    flow: i64,
+    wanted: &[i64],
+    path: &mut [u16],
+) -> Answer {
     call!(
         fernpocket_run,
         sheet.as_ptr(),
@@ -151,6 +161,8 @@ pub fn run(sheet: &[i64], values: &[i64], given: &[i64], states: &mut [i64], flo
         states.as_mut_ptr(),
         states.len(),
         flow,
+        wanted.as_ptr(),
+        wanted.len(),
         path.as_mut_ptr(),
         path.len()
     )

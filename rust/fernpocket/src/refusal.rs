@@ -25,7 +25,7 @@ pub enum Refusal {
     Record(usize),
     /// 4: a slice has the wrong length.
     Length,
-    /// 5: there is no such persona, operation, flow, entity, state, rule or node.
+    /// 5: there is no such persona, operation, outcome, flow, entity, state, rule or node.
     Missing,
     /// 6: this fact's given flag is not 0 or 1, or it is given with a value outside its min..max.
     FactValue(usize),
@@ -37,7 +37,7 @@ pub enum Refusal {
     Persona,
     /// 10: the operation's precondition is false.
     Precondition,
-    /// 11: no outcome of the operation applies to the present states.
+    /// 11: the wanted outcome does not apply to the present states; where none is wanted, none of the operation's does.
     NoOutcome,
     /// 12: the buffer does not begin with a path of the flow.
     NotPath,
@@ -47,6 +47,8 @@ pub enum Refusal {
     Line(usize),
     /// 15: the output is shorter than the result.
     NoRoom,
+    /// 16: several of the operation's outcomes apply to the present states, and none is wanted.
+    ManyOutcomes,
 }
 
 impl Refusal {
@@ -68,11 +70,12 @@ impl Refusal {
             13 => Refusal::LastPath,
             14 => Refusal::Line(place),
             15 => Refusal::NoRoom,
+            16 => Refusal::ManyOutcomes,
             _ => return None,
         })
     }
 
-    /// The refusal's number, 1 to 15.
+    /// The refusal's number, 1 to 16.
     pub fn number(self) -> u8 {
         match self {
             Refusal::Header => 1,
@@ -90,6 +93,7 @@ impl Refusal {
             Refusal::LastPath => 13,
             Refusal::Line(_) => 14,
             Refusal::NoRoom => 15,
+            Refusal::ManyOutcomes => 16,
         }
     }
 
@@ -112,7 +116,7 @@ impl Refusal {
             Refusal::Group => "the counts of a group's owners do not add up to the table's count",
             Refusal::Record(_) => "this record is bad (in the text: line place + 3, counted from 1)",
             Refusal::Length => "a slice has the wrong length",
-            Refusal::Missing => "there is no such persona, operation, flow, entity, state, rule or node",
+            Refusal::Missing => "there is no such persona, operation, outcome, flow, entity, state, rule or node",
             Refusal::FactValue(_) => {
                 "this fact is given wrongly: its flag is not 0 or 1, or its value is outside min..max"
             }
@@ -120,11 +124,12 @@ impl Refusal {
             Refusal::State(_) => "the state of this entity is not one of its states",
             Refusal::Persona => "the persona may not perform the operation",
             Refusal::Precondition => "the operation's precondition is false",
-            Refusal::NoOutcome => "no outcome of the operation applies to the present states",
+            Refusal::NoOutcome => "no outcome, or not the wanted one, applies to the present states",
             Refusal::NotPath => "the buffer does not begin with a path of the flow",
             Refusal::LastPath => "no path follows the one in the buffer",
             Refusal::Line(_) => "this line is bad (line place + 1, counted from 1)",
             Refusal::NoRoom => "the output is shorter than the result",
+            Refusal::ManyOutcomes => "several outcomes apply to the present states, and none is wanted",
         }
     }
 }

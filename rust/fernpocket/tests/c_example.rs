@@ -56,6 +56,15 @@ impl Desk {
         let text = |bytes| String::from_utf8(bytes).unwrap();
         (output.status.code().expect("it ends by itself"), text(output.stdout), text(output.stderr))
     }
+
+    /// As the pages say it: answers line by line; of a refusal the number and the place.
+    fn says(&self, text: &str, words: &[&str]) -> String {
+        let (status, answered, said) = self.on(text, words);
+        match status {
+            0 => answered.lines().map(|line| format!("`{line}`")).collect::<Vec<_>>().join(", "),
+            _ => format!("`refused {}`", said.split("refused ").nth(1).unwrap().split(':').next().unwrap()),
+        }
+    }
 }
 
 #[test]
@@ -73,7 +82,9 @@ fn the_desk() {
 
     // 5,000.00, delivery confirmed, line items valid: the escrow agent may release it.
     answers("operate 3 0 0=500000 1=1 2=1", "outcome 0\nstates: 1 0\n");
+    answers("operate 3 0 0 0=500000 1=1 2=1", "outcome 0\nstates: 1 0\n");
     answers("run 0 0=500000 1=1 2=1", "flow 0, success: 0 2 4\nstates: 1 1\n");
+    answers("run 0 0:0 2:0 0=500000 1=1 2=1", "flow 0, success: 0 2 4\nstates: 1 1\n");
 
     // What the library refuses is said in the words of the Rust crate, and nothing is answered.
     let refused = |text: &str, line: &str, call: &str, refusal: Refusal| {
@@ -86,6 +97,8 @@ fn the_desk() {
     refused(&escrow, "operate 3 0 0=500000 1=3 2=1", "operate", Refusal::FactValue(1));
     refused(&escrow, "operate 3 0 0=500000 1=1", "operate", Refusal::FactAbsent(2));
     refused(&escrow, "run 2 0=500000 1=1 2=1", "run", Refusal::Missing);
+    refused(&escrow, "operate 3 0 1 0=500000 1=1 2=1", "operate", Refusal::Missing);
+    refused(&escrow, "run 0 1:0 0=500000 1=1 2=1", "run", Refusal::Missing);
     refused("", "", "check", Refusal::Header);
     refused(&escrow.replacen("7\t0\t0\t1\t", "7\t6\t0\t1\t", 1), "", "check", Refusal::Record(7));
     refused(&escrow.replacen("2\t0\t2\t0\t", "2\t0\t2\t00\t", 1), "operate 3 0", "read", Refusal::Line(3));
@@ -109,13 +122,21 @@ fn the_desk() {
     bad("operate|3|0|0=|1=1|2=1", &number("VALUE", ""));
     bad("operate|3|0|0=1000000001|1=1|2=1", &number("VALUE", "1000000001"));
     bad("operate|3|0|=1", &number("FACT", ""));
-    bad("operate|3|0|0", "desk: \"0\" is not of the form FACT=VALUE\n");
+    bad("operate|3|0|0|0", "desk: \"0\" is not of the form FACT=VALUE\n");
+    bad("run|0|0", "desk: \"0\" is not of the form FACT=VALUE\n");
+    bad("operate|3|0|released|0=500000", &number("OUTCOME", "released"));
+    bad("operate|3|0|-1|0=500000", &number("OUTCOME", "-1"));
+    bad("run|0|step_confirm:0", &number("STEP", "step_confirm"));
+    bad("run|0|0:", &number("OUTCOME", ""));
+    bad("run|0|5:0", "desk: step 5 is not in the flow\n");
+    bad("run|0|4:0|4:1", "desk: step 4 is named twice\n");
     bad("operate|3|0|5=1", "desk: fact 5 is not in the sheet\n");
     bad("operate|3|0|0=1|0=2", "desk: fact 0 is given twice\n");
     for line in ["", "operate", "operate|3", "run", "release|3|0"] {
         bad(line, "usage: desk");
     }
     format_page(&desk);
+    adjudication_page(&desk);
 
     let long = "0\t0\t0\t0\t0\t0\t0\t0\n".repeat(30_000);
     assert_eq!(desk.on(&long, &[]).0, 2);
@@ -136,20 +157,12 @@ fn format_page(desk: &Desk) {
         let place = index.checked_sub(2).map_or(String::new(), |place| place.to_string());
         assert_eq!((row[0], row[1]), (&(index + 1).to_string()[..], &place[..]));
     }
-    // Answers line by line; of a refusal the number and the place.
-    let says = |text: &str, words: &[&str]| {
-        let (status, answered, said) = desk.on(text, words);
-        match status {
-            0 => answered.lines().map(|line| format!("`{line}`")).collect::<Vec<_>>().join(", "),
-            _ => format!("`refused {}`", said.split("refused ").nth(1).unwrap().split(':').next().unwrap()),
-        }
-    };
     let listed: String =
         page.lines().filter_map(|line| line.strip_prefix("    ")).map(|line| format!("{line}\n")).collect();
     assert_eq!(desk.on(&sheet, &[]), (0, listed, String::new()));
     for row in calls {
         let words: Vec<&str> = row[0].trim_matches('`').split(' ').collect();
-        assert_eq!(says(&sheet, &words), row[1], "{row:?}");
+        assert_eq!(desk.says(&sheet, &words), row[1], "{row:?}");
     }
     for row in wrong {
         let number: usize = row[0].parse().unwrap();
@@ -157,7 +170,19 @@ fn format_page(desk: &Desk) {
         let changed: String =
             changed.map(|(index, old)| if index + 1 == number { line(row[1]) } else { old.to_owned() }).collect();
         assert_ne!(changed, sheet);
-        assert_eq!(says(&changed, &[]), row[2], "{row:?}");
+        assert_eq!(desk.says(&changed, &[]), row[2], "{row:?}");
+    }
+}
+
+/// The calls of examples/adjudication.md, and what the page says comes out.
+fn adjudication_page(desk: &Desk) {
+    let page = fs::read_to_string(root().join("examples/adjudication.md")).unwrap();
+    let sheet = fs::read_to_string(root().join("examples/adjudication.txt")).unwrap();
+    let calls = rows(page.split_once("## What the desk says").unwrap().1);
+    assert!(calls.len() >= 8, "{} rows", calls.len());
+    for row in calls {
+        let words: Vec<&str> = row[0].trim_matches('`').split(' ').collect();
+        assert_eq!(desk.says(&sheet, &words), row[1], "{row:?}");
     }
 }
 

@@ -6,7 +6,7 @@ use std::fs;
 use std::path::Path;
 
 fn all() -> impl Iterator<Item = Refusal> {
-    (1..=15).map(|number| Refusal::from_numbers(number, 0).unwrap())
+    (1..=16).map(|number| Refusal::from_numbers(number, 0).unwrap())
 }
 
 /// A file of the repository.
@@ -31,7 +31,7 @@ fn numbers_and_places() {
         assert_eq!(with_place.number(), refusal.number());
         assert_eq!(with_place.place(), if name(refusal).1 { 7 } else { 0 });
     }
-    for number in [i64::MIN, -1, 0, 16, i64::MAX] {
+    for number in [i64::MIN, -1, 0, 17, i64::MAX] {
         assert_eq!(Refusal::from_numbers(number, 0), None);
     }
 }

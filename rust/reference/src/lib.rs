@@ -1,4 +1,4 @@
-//! Document 01 in safe Rust, written from the document and the C header alone.
+//! Documents 01 and 02 in safe Rust, written from the documents and the C header alone.
 //!
 //! Each public function answers the four numbers of the C header: refusal, place, value, length.
 //! A lent slice is written only once nothing can be refused any more.
@@ -139,7 +139,7 @@ pub fn verdicts(sheet: &[i64], values: &[i64], given: &[i64], verdicts: &mut [i6
     })
 }
 
-/// One operation. The value is the outcome.
+/// One operation. The value is the outcome: the wanted one, or for -1 the only one that is applicable.
 pub fn operate(
     sheet: &[i64],
     values: &[i64],
@@ -147,6 +147,7 @@ pub fn operate(
     states: &mut [i64],
     persona: i64,
     operation: i64,
+    wanted: i64,
 ) -> Answer {
     value(|| {
         let sheet = check_sheet(sheet)?;
@@ -154,6 +155,7 @@ pub fn operate(
         lengths(&[(values.len(), facts), (given.len(), facts), (states.len(), entities)])?;
         let persona = exists(persona, sheet.personas)?;
         let operation = exists(operation, sheet.operations.len())?;
+        let wanted = operation::wanted(&sheet, operation, wanted)?;
         let taken = facts::take(&sheet, values, given)?;
         operation::judge_states(&sheet, states)?;
         if !operation::permits(&sheet, operation, persona) {
@@ -163,21 +165,31 @@ pub fn operate(
         if !known.holds(operation::precondition(&sheet, operation)) {
             return Err(Refused::plain(10));
         }
-        operation::perform(&sheet, operation, states).ok_or(Refused::plain(11))
+        operation::perform(&sheet, operation, wanted, states)
     })
 }
 
-/// One run of a flow. The value is the terminal.
-pub fn run(sheet: &[i64], values: &[i64], given: &[i64], states: &mut [i64], flow: i64, path: &mut [u16]) -> Answer {
+/// One run of a flow, with a wanted outcome or -1 for each of its steps. The value is the terminal.
+pub fn run(
+    sheet: &[i64],
+    values: &[i64],
+    given: &[i64],
+    states: &mut [i64],
+    flow: i64,
+    wanted: &[i64],
+    path: &mut [u16],
+) -> Answer {
     ending(|| {
         let sheet = check_sheet(sheet)?;
         let (facts, entities) = (sheet.facts.len(), sheet.entities.len());
         lengths(&[(values.len(), facts), (given.len(), facts), (states.len(), entities)])?;
         let flow = flow_and_buffer(&sheet, flow, path.len())?;
+        lengths(&[(wanted.len(), sheet.group_of_flow(flow).len())])?;
+        let wanted = flow::wanted(&sheet, flow, wanted)?;
         let taken = facts::take(&sheet, values, given)?;
         operation::judge_states(&sheet, states)?;
         let known = tree::World::new(&sheet, &taken);
-        Ok(flow::run(&sheet, &known, flow, states, path))
+        Ok(flow::run(&sheet, &known, flow, &wanted, states, path))
     })
 }
 

@@ -1,8 +1,8 @@
 //! Operations: persona, then precondition, then states.
 
 use crate::check::Sheet;
-use crate::tables::below;
-use crate::Refused;
+use crate::tables::{below, Record};
+use crate::{exists, Refused};
 
 /// Refusal 8 at the first entity whose lent state is not among its states.
 pub fn judge_states(sheet: &Sheet, states: &[i64]) -> Result<(), Refused> {
@@ -23,29 +23,49 @@ pub fn precondition(sheet: &Sheet, operation: usize) -> usize {
     sheet.operations[operation][1] as usize
 }
 
-/// Performs the first applicable outcome, if there is one, and answers its number.
-pub fn perform(sheet: &Sheet, operation: usize, states: &mut [i64]) -> Option<usize> {
-    let effects = &sheet.effects[sheet.group_of_operation(operation)];
-    for effects in effects.chunk_by(|a, b| a[3] == b[3]) {
-        // The entities that the outcome names, and those of them with an effect from their present state.
-        let (mut named, mut ready) = (0u32, 0u32);
-        for [entity, from, ..] in effects {
-            named |= 1 << entity;
-            if states[*entity as usize] == *from {
-                ready |= 1 << entity;
-            }
+/// The outcome that a word wants of an operation, none for -1; 5 where the operation has no such outcome.
+pub fn wanted(sheet: &Sheet, operation: usize, word: i64) -> Result<Option<usize>, Refused> {
+    match word {
+        -1 => Ok(None),
+        _ => exists(word, sheet.outcomes_of(operation)).map(Some),
+    }
+}
+
+/// The entities of an outcome's effects that have an effect from their present state, as a mask, if all of them have.
+fn applicable(effects: &[Record], states: &[i64]) -> Option<u32> {
+    let (mut named, mut ready) = (0u32, 0u32);
+    for [entity, from, ..] in effects {
+        named |= 1 << entity;
+        if states[*entity as usize] == *from {
+            ready |= 1 << entity;
         }
-        if named != ready {
+    }
+    (named == ready).then_some(ready)
+}
+
+/// Performs the wanted outcome, or the only applicable one, and answers its number. 11 where it is not applicable, or
+/// none is; 16 where none is wanted and several are.
+pub fn perform(sheet: &Sheet, operation: usize, wanted: Option<usize>, states: &mut [i64]) -> Result<usize, Refused> {
+    let effects = &sheet.effects[sheet.group_of_operation(operation)];
+    let mut chosen = None;
+    for (outcome, effects) in effects.chunk_by(|a, b| a[3] == b[3]).enumerate() {
+        if wanted.is_some_and(|wanted| wanted != outcome) {
             continue;
         }
-        // All at once: an entity that has moved is not moved again.
-        for [entity, from, to, ..] in effects {
-            if ready >> entity & 1 == 1 && states[*entity as usize] == *from {
-                states[*entity as usize] = *to;
-                ready &= !(1 << entity);
+        if let Some(ready) = applicable(effects, states) {
+            if chosen.is_some() {
+                return Err(Refused::plain(16));
             }
+            chosen = Some((outcome, effects, ready));
         }
-        return Some(effects[0][3] as usize);
     }
-    None
+    let (outcome, effects, mut ready) = chosen.ok_or(Refused::plain(11))?;
+    // All at once: an entity that has moved is not moved again.
+    for [entity, from, to, ..] in effects {
+        if ready >> entity & 1 == 1 && states[*entity as usize] == *from {
+            states[*entity as usize] = *to;
+            ready &= !(1 << entity);
+        }
+    }
+    Ok(outcome)
 }

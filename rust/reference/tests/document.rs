@@ -101,7 +101,7 @@ fn p2_to_p4_runs() {
     {
         let mut states = [state];
         let mut buffer = [7; 3];
-        assert_eq!(run(&sheet, &[1], &[given], &mut states, 0, &mut buffer), answer);
+        assert_eq!(run(&sheet, &[1], &[given], &mut states, 0, &[-1, 0], &mut buffer), answer);
         assert_eq!((buffer, states), (path, [after]));
     }
 }
@@ -132,11 +132,11 @@ fn p9_ranges() {
 #[test]
 fn p10_given_value() {
     let (sheet, mut states, mut path) = (whole(), [0], [5, 5]);
-    assert_eq!(run(&sheet, &[2], &[1], &mut states, 0, &mut path), refused(6, 0));
+    assert_eq!(run(&sheet, &[2], &[1], &mut states, 0, &[-1, -1], &mut path), refused(6, 0));
     assert_eq!((states, path), ([0], [5, 5]));
     assert_eq!(assemble(&sheet, &mut [2], &[1]), refused(6, 0));
     assert_eq!(verdicts(&sheet, &[2], &[1], &mut []), refused(6, 0));
-    assert_eq!(operate(&sheet, &[2], &[1], &mut states, 0, 0), refused(6, 0));
+    assert_eq!(operate(&sheet, &[2], &[1], &mut states, 0, 0, -1), refused(6, 0));
 }
 
 #[test]
@@ -395,25 +395,41 @@ fn effect_records() {
 fn outcomes_are_chosen_and_applied_at_once() {
     // Outcome 0 needs entity 0 from 0 or 1, and entity 1 from 2. Outcome 1 needs entity 2 from 3.
     let sheet = desk(&[&[2, 0, 0, 4, 2]], &[&[0, 0, 1, 0], &[0, 1, 3, 0], &[1, 2, 0, 0], &[2, 3, 2, 1]]);
-    for (before, answer, after) in [
-        ([0, 2, 0], good(0, 0), [1, 0, 0]),
-        ([1, 2, 3], good(0, 0), [3, 0, 3]),
-        ([0, 1, 3], good(1, 0), [0, 1, 2]),
-        ([3, 2, 3], good(1, 0), [3, 2, 2]),
-        ([0, 1, 0], refused(11, 0), [0, 1, 0]),
-        ([0, 4, 0], refused(8, 1), [0, 4, 0]),
-        ([0, 4, -1], refused(8, 1), [0, 4, -1]),
+    for (before, wanted, answer, after) in [
+        // One outcome is applicable: -1 chooses it, as does its own number.
+        ([0, 2, 0], -1, good(0, 0), [1, 0, 0]),
+        ([0, 2, 0], 0, good(0, 0), [1, 0, 0]),
+        ([0, 1, 3], -1, good(1, 0), [0, 1, 2]),
+        ([3, 2, 3], -1, good(1, 0), [3, 2, 2]),
+        ([3, 2, 3], 1, good(1, 0), [3, 2, 2]),
+        // Both are: -1 chooses none of them.
+        ([1, 2, 3], -1, refused(16, 0), [1, 2, 3]),
+        ([1, 2, 3], 0, good(0, 0), [3, 0, 3]),
+        ([1, 2, 3], 1, good(1, 0), [1, 2, 2]),
+        // The wanted one is not, whether or not the other is.
+        ([0, 2, 0], 1, refused(11, 0), [0, 2, 0]),
+        ([0, 1, 3], 0, refused(11, 0), [0, 1, 3]),
+        ([0, 1, 0], 0, refused(11, 0), [0, 1, 0]),
+        ([0, 1, 0], -1, refused(11, 0), [0, 1, 0]),
+        // Not an outcome: 5, before the states are judged.
+        ([0, 2, 0], 2, refused(5, 0), [0, 2, 0]),
+        ([0, 2, 0], -2, refused(5, 0), [0, 2, 0]),
+        ([0, 4, 0], i64::MAX, refused(5, 0), [0, 4, 0]),
+        ([0, 4, 0], i64::MIN, refused(5, 0), [0, 4, 0]),
+        ([0, 4, 0], -1, refused(8, 1), [0, 4, 0]),
+        ([0, 4, -1], 1, refused(8, 1), [0, 4, -1]),
     ] {
         let mut states = before;
-        assert_eq!(operate(&sheet, &[], &[], &mut states, 1, 0), answer);
+        assert_eq!(operate(&sheet, &[], &[], &mut states, 1, 0, wanted), answer, "{before:?} {wanted}");
         assert_eq!(states, after);
     }
     let mut states = [0, 2, 0];
-    assert_eq!(operate(&sheet, &[], &[], &mut states, 0, 0), refused(9, 0));
-    assert_eq!(operate(&sheet, &[], &[], &mut states, 3, 0), refused(5, 0));
-    assert_eq!(operate(&sheet, &[], &[], &mut states, 1, 1), refused(5, 0));
-    assert_eq!(operate(&sheet, &[1], &[], &mut states, 3, 1), refused(4, 0));
-    assert_eq!(operate(&sheet, &[], &[], &mut [9, 9, 9], 0, 0), refused(8, 0));
+    assert_eq!(operate(&sheet, &[], &[], &mut states, 0, 0, -1), refused(9, 0));
+    assert_eq!(operate(&sheet, &[], &[], &mut [1, 2, 3], 0, 0, -1), refused(9, 0));
+    assert_eq!(operate(&sheet, &[], &[], &mut states, 3, 0, -1), refused(5, 0));
+    assert_eq!(operate(&sheet, &[], &[], &mut states, 1, 1, -1), refused(5, 0));
+    assert_eq!(operate(&sheet, &[1], &[], &mut states, 3, 1, 9), refused(4, 0));
+    assert_eq!(operate(&sheet, &[], &[], &mut [9, 9, 9], 0, 0, -1), refused(8, 0));
 }
 
 #[test]
@@ -459,8 +475,8 @@ fn paths_and_buffers() {
     assert_eq!(first(&sheet, 0, &mut [0]), refused(4, 0));
     assert_eq!(first(&sheet, 1, &mut []), refused(5, 0));
     assert_eq!(next(&sheet, -1, &mut [0]), refused(5, 0));
-    assert_eq!(run(&sheet, &[], &[], &mut [0], 1, &mut []), refused(4, 0));
-    assert_eq!(run(&sheet, &[0], &[0], &mut [0], 1, &mut []), refused(5, 0));
+    assert_eq!(run(&sheet, &[], &[], &mut [0], 1, &[], &mut []), refused(4, 0));
+    assert_eq!(run(&sheet, &[0], &[0], &mut [0], 1, &[], &mut []), refused(5, 0));
     for (before, answer, after) in [
         ([0, 2, 77], good(0, 2), [0, 3, 0]),
         ([0, 4, 1], good(1, 1), [1, 0, 0]),
@@ -587,10 +603,46 @@ fn a_flow_uses_the_changes_of_its_earlier_steps() {
         ],
     );
     assert_eq!(check(&sheet), good(0, 0));
-    let mut path = [9; 5];
-    let mut states = [0];
-    assert_eq!(run(&sheet, &[], &[], &mut states, 0, &mut path), good(2, 4));
-    assert_eq!((path, states), ([0, 4, 8, 11, 0], [2]));
+    // One outcome is applicable at a time, so that it makes no difference whether it is wanted. Step 2 is answered 9.
+    for wanted in [[-1; 4], [0, 1, 0, 1], [0, 1, 1, 0]] {
+        let (mut path, mut states) = ([9; 5], [0]);
+        assert_eq!(run(&sheet, &[], &[], &mut states, 0, &wanted, &mut path), good(2, 4));
+        assert_eq!((path, states), ([0, 4, 8, 11, 0], [2]));
+    }
+    // Outcome 1 is wanted of the first step, which is answered 11 and takes its failure route; the next one is made.
+    let (mut path, mut states) = ([9; 5], [0]);
+    assert_eq!(run(&sheet, &[], &[], &mut states, 0, &[1, 0, -1, -1], &mut path), good(1, 4));
+    assert_eq!((path, states), ([2, 3, 8, 10, 0], [2]));
     assert_eq!(depth(&sheet, 0), good(4, 0));
     assert_eq!(listing(&sheet, 0, 4).len(), 9 * (2 + 3));
+}
+
+#[test]
+fn wanted_words_of_a_run() {
+    // Step 0 is a branch, step 1 an operation of two outcomes, both from state 0.
+    let sheet = whole();
+    for (wanted, answer, path, after) in [
+        (&[-1, 0][..], good(0, 2), [0, 2], 1),
+        (&[-1, 1], good(0, 2), [0, 3], 2),
+        // 16 takes the failure route and changes nothing.
+        (&[-1, -1], good(2, 2), [0, 4], 0),
+        (&[0, 0], refused(5, 0), [7, 7], 0),
+        (&[-2, 0], refused(5, 0), [7, 7], 0),
+        (&[-1, 2], refused(5, 0), [7, 7], 0),
+        (&[-1, -2], refused(5, 0), [7, 7], 0),
+        (&[-1], refused(4, 0), [7, 7], 0),
+        (&[0, 0, -1], refused(4, 0), [7, 7], 0),
+        (&[], refused(4, 0), [7, 7], 0),
+    ] {
+        let (mut states, mut buffer) = ([0], [7; 2]);
+        assert_eq!(run(&sheet, &[1], &[1], &mut states, 0, wanted, &mut buffer), answer, "{wanted:?}");
+        assert_eq!((buffer, states), (path, [after]), "{wanted:?}");
+    }
+    // Step 1 is not reached, and its word is judged all the same; 5 comes before the facts and the states.
+    let (mut states, mut buffer) = ([0], [7; 2]);
+    assert_eq!(run(&sheet, &[0], &[1], &mut states, 0, &[-1, 2], &mut buffer), refused(5, 0));
+    assert_eq!(run(&sheet, &[9], &[1], &mut [9], 0, &[-1, 2], &mut buffer), refused(5, 0));
+    assert_eq!(run(&sheet, &[9], &[1], &mut [9], 0, &[-1, 1], &mut buffer), refused(6, 0));
+    // No such flow: its wanted words are not judged.
+    assert_eq!(run(&sheet, &[1], &[1], &mut states, 1, &[7; 9], &mut buffer), refused(5, 0));
 }

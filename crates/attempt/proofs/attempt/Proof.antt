@@ -17,7 +17,7 @@ same-length c = search needs
 returns : tie.Need-returns
 returns c =
     let at-admits = c .before .before .before in
-    attempt-admits _ _ _ _ _ _ _ (c .before .attempt-known .ensures .0) (c .before .attempt-known .ensures .1) (at-admits .admits .ensures)
+    attempt-admits _ _ _ _ _ _ _ _ (c .before .attempt-known .ensures .0) (c .before .attempt-known .ensures .1) (at-admits .admits .ensures)
 
 pub attempt-spec : {M : Type 1} → statement M
 attempt-spec = tie.close (tie.spec admits-requires attempt-known-requires same-length returns)

@@ -1,5 +1,5 @@
--- `attempt::attempt_known` meets its contract: the first of the four cases that holds. Assumes nothing.
-use Rattle.attempt.proofs.AttemptLaws.{at-persona, at-precondition, at-outcome, at-nothing}
+-- `attempt::attempt_known` meets its contract: the first of the five cases that holds. Assumes nothing.
+use Rattle.attempt.proofs.AttemptLaws.{at-persona, at-precondition, at-outcome, at-nothing, at-several}
 use borrow.Author.Needs.{needs}
 use Rattle.attempt.proofs.attempt_known.Statement.{statement}
 use Rattle.attempt.proofs.attempt_known.Tie as tie
@@ -8,12 +8,12 @@ allows-requires : tie.Need-allows-requires
 allows-requires c κs = search needs
 
 returns : tie.Need-returns
-returns c = at-persona _ _ _ _ _ _ (c .before .allows .ensures) (c .if1 .taken)
+returns c = at-persona _ _ _ _ _ _ _ (c .before .allows .ensures) (c .if1 .taken)
 
 returns-2 : tie.Need-returns-2
 returns-2 c =
     let at-allows = c .before .before in
-    at-precondition _ _ _ _ _ _ (at-allows .allows .ensures) (c .before .if1 .left) (c .if2 .taken)
+    at-precondition _ _ _ _ _ _ _ (at-allows .allows .ensures) (c .before .if1 .left) (c .if2 .taken)
 
 perform-requires : tie.Need-perform-requires
 perform-requires c κs = search needs
@@ -24,6 +24,9 @@ enum-known-j c = search needs
 enum-told : tie.Need-enum-told
 enum-told c = search needs
 
+enum-told-2 : tie.Need-enum-told-2
+enum-told-2 c = search needs
+
 same-length : tie.Need-same-length
 same-length c = search needs
 
@@ -33,7 +36,7 @@ returns-3 c =
     let at-if2 = at-perform .before .before in
     let at-if1 = at-if2 .before in
     let at-allows = at-if1 .before in
-    at-outcome _ _ _ _ _ _ (at-allows .allows .ensures) (at-if1 .if1 .left) (at-if2 .if2 .left) (at-perform .perform .ensures .0)
+    at-outcome _ _ _ _ _ _ _ (at-allows .allows .ensures) (at-if1 .if1 .left) (at-if2 .if2 .left) (at-perform .perform .ensures .0)
     (at-perform .perform .ensures .1) _ (c .before .j .given .1)
 
 same-length-2 : tie.Need-same-length-2
@@ -45,8 +48,20 @@ returns-4 c =
     let at-if2 = at-perform .before .before in
     let at-if1 = at-if2 .before in
     let at-allows = at-if1 .before in
-    at-nothing _ _ _ _ _ _ (at-allows .allows .ensures) (at-if1 .if1 .left) (at-if2 .if2 .left) (at-perform .perform .ensures .0)
+    at-nothing _ _ _ _ _ _ _ (at-allows .allows .ensures) (at-if1 .if1 .left) (at-if2 .if2 .left) (at-perform .perform .ensures .0)
     (at-perform .perform .ensures .1) (c .enum-told .given .1)
+
+same-length-3 : tie.Need-same-length-3
+same-length-3 c = search needs
+
+returns-5 : tie.Need-returns-5
+returns-5 c =
+    let at-perform = c .before .before .before in
+    let at-if2 = at-perform .before .before in
+    let at-if1 = at-if2 .before in
+    let at-allows = at-if1 .before in
+    at-several _ _ _ _ _ _ _ (at-allows .allows .ensures) (at-if1 .if1 .left) (at-if2 .if2 .left) (at-perform .perform .ensures .0)
+    (at-perform .perform .ensures .1) (c .enum-told2 .given .1)
 
 pub attempt-known-spec : {M : Type 1} → statement M
 attempt-known-spec =
@@ -58,7 +73,10 @@ attempt-known-spec =
     perform-requires
     enum-known-j
     enum-told
+    enum-told-2
     same-length
     returns-3
     same-length-2
-    returns-4)
+    returns-4
+    same-length-3
+    returns-5)

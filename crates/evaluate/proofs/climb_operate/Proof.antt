@@ -23,8 +23,11 @@ facts-lent-requires c κs = search needs
 exists-requires : tie.Need-exists-requires
 exists-requires c κs = search needs
 
-exists-requires-2 : tie.Need-exists-requires-2
-exists-requires-2 c κs = search needs
+wanted-exists-requires : tie.Need-wanted-exists-requires
+wanted-exists-requires c κs =
+    let at-h = c .before .before .before .before in
+    let at-open-sheet = at-h .before .before in
+    opened-at _ (at-open-sheet .open-sheet .ensures) (at-h .h .given .1) .sheet
 
 judge-call-requires : tie.Need-judge-call-requires
 judge-call-requires c κs = search needs
@@ -59,8 +62,8 @@ unfolding operateRungs
 returns-2 c =
     let at-then-facts = c .before .before in
     let at-judge-call = at-then-facts .before in
-    let at-exists2 = at-judge-call .before in
-    let at-exists = at-exists2 .before in
+    let at-wanted = at-judge-call .before in
+    let at-exists = at-wanted .before in
     let at-facts-lent = at-exists .before .before in
     let at-h = at-facts-lent .before .before in
     let at-open-sheet = at-h .before .before in
@@ -72,9 +75,10 @@ returns-2 c =
       at-judge-call .judge-call .ensures,
       at-facts-lent .facts-lent .ensures,
       at-exists .exists .ensures,
-      at-exists2 .exists2 .ensures,
+      at-wanted .wanted-exists .ensures,
       back (at-start .fits .persona),
       back (at-start .fits .operation),
+      back (at-start .fits .wanted),
     ))
 
 pub climb-operate-spec : {M : Type 1} → statement M
@@ -86,7 +90,7 @@ climb-operate-spec =
     enum-known-h
     facts-lent-requires
     exists-requires
-    exists-requires-2
+    wanted-exists-requires
     judge-call-requires
     then-facts-requires
     then-states-requires

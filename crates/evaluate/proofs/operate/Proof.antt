@@ -21,11 +21,15 @@ num-requires c κs = search needs
 num-requires-2 : tie.Need-num-requires-2
 num-requires-2 c κs = search needs
 
+wanted-of-requires : tie.Need-wanted-of-requires
+wanted-of-requires c κs = search needs
+
 act-requires : tie.Need-act-requires
 act-requires c κs =
-    let at-h = c .before .before .before .before in
+    let at-h = c .before .before .before .before .before in
     let at-climb-operate = at-h .before .before in
-    rw (c .before .num .ensures, c .num2 .ensures) (asked _ _ _ _ _ _ (at-climb-operate .climb-operate .ensures) (at-h .h .given .1))
+    rw (c .before .before .num .ensures, c .before .num2 .ensures)
+    (asked _ _ _ _ _ _ _ (at-climb-operate .climb-operate .ensures) (at-h .h .given .1))
 
 same-length : tie.Need-same-length
 same-length c = search needs
@@ -34,7 +38,8 @@ returns : tie.Need-returns
 returns c =
     let at-climb-operate = c .before .before .before in
     let at-start = at-climb-operate .before .before in
-    let e = rw (back (at-start .fits .persona), back (at-start .fits .operation)) at (at-climb-operate .climb-operate .ensures) in
+    let e = rw (back (at-start .fits .persona), back (at-start .fits .operation), back (at-start .fits .wanted))
+    at (at-climb-operate .climb-operate .ensures) in
     (stopped _ _ e (c .before .r .given .1), stopped _ _ e (c .before .r .given .1))
 
 same-length-2 : tie.Need-same-length-2
@@ -42,14 +47,22 @@ same-length-2 c = search needs
 
 returns-2 : tie.Need-returns-2
 returns-2 c =
-    let at-num2 = c .before .before in
+    let at-wanted-of = c .before .before in
+    let at-num2 = at-wanted-of .before in
     let at-num = at-num2 .before in
     let at-h = at-num .before .before .before in
     let at-climb-operate = at-h .before .before in
     let at-start = at-climb-operate .before .before in
-    let e = rw (back (at-start .fits .persona), back (at-start .fits .operation)) at (at-climb-operate .climb-operate .ensures) in
-    let w = rw (at-num .num .ensures, at-num2 .num2 .ensures, back (at-start .fits .persona), back (at-start .fits .operation))
-    at (c .before .act .ensures) in
+    let e = rw (back (at-start .fits .persona), back (at-start .fits .operation), back (at-start .fits .wanted))
+    at (at-climb-operate .climb-operate .ensures) in
+    let w = rw (
+      at-num .num .ensures,
+      at-num2 .num2 .ensures,
+      at-wanted-of .wanted-of .ensures,
+      back (at-start .fits .persona),
+      back (at-start .fits .operation),
+      back (at-start .fits .wanted),
+    ) at (c .before .act .ensures) in
     (worked _ _ e (at-h .h .given .1) (w .0), worked _ _ e (at-h .h .given .1) (w .1))
 
 pub operate-spec : {M : Type 1} → statement M
@@ -61,6 +74,7 @@ operate-spec =
     enum-known-h
     num-requires
     num-requires-2
+    wanted-of-requires
     act-requires
     same-length
     returns

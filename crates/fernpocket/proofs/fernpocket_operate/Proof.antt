@@ -11,19 +11,21 @@ operate-requires : tie.Need-operate-requires
 operate-requires c κs = search needs
 
 of-count-requires : tie.Need-of-count-requires
-of-count-requires c κs = rw (c .before .operate .ensures .0) (operate-small _ _ _ _ _ _)
+of-count-requires c κs = rw (c .before .operate .ensures .0) (operate-small _ _ _ _ _ _ _)
 
 same-length : tie.Need-same-length
 same-length c = search needs
 
 returns : tie.Need-returns
-returns c = (
-  c .of-count .ensures
-      ∙ ap countAnswer (rw (back (c .before .before .before .before .fits .persona), back (c .before .before .before .before .fits .operation))
-      at (c .before .before .operate .ensures .0)),
-  rw (back (c .before .before .before .before .fits .persona), back (c .before .before .before .before .fits .operation))
-      at (c .before .before .operate .ensures .1),
-)
+returns c =
+    let at-operate = c .before .before in
+    let at-start = at-operate .before .before in (
+      c .of-count .ensures
+          ∙ ap countAnswer (rw (back (at-start .fits .persona), back (at-start .fits .operation), back (at-start .fits .wanted))
+          at (at-operate .operate .ensures .0)),
+      rw (back (at-start .fits .persona), back (at-start .fits .operation), back (at-start .fits .wanted))
+          at (at-operate .operate .ensures .1),
+    )
 
 pub fernpocket-operate-spec : {M : Type 1} → statement M
 fernpocket-operate-spec =

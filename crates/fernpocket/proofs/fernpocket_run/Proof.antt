@@ -12,8 +12,10 @@ run-requires c κs = search needs
 
 of-walk-requires : tie.Need-of-walk-requires
 of-walk-requires c κs =
-    rw (c .before .before .before .run .ensures .0)
-    (run-call-small _ _ _ _ _ (c .before .before .before .before .before .before .before .args .path .now))
+    let at-run = c .before .before .before in
+    let at-start = at-run .before .before .before .before in
+    rw (at-run .run .ensures .0)
+    (run-call-small _ _ _ _ _ _ (at-start .args .path .now))
 
 same-length : tie.Need-same-length
 same-length c = search needs
@@ -22,17 +24,19 @@ same-length-2 : tie.Need-same-length-2
 same-length-2 c = search needs
 
 returns : tie.Need-returns
-returns c = (
-  c .of-walk .ensures
-      ∙ ap walkAnswer (rw (back (c .before .before .before .before .before .before .before .before .fits .flow))
-      at (c .before .before .before .before .run .ensures .0)),
-  (
-    rw (back (c .before .before .before .before .before .before .before .before .fits .flow))
-        at (c .before .before .before .before .run .ensures .1 .0),
-    rw (back (c .before .before .before .before .before .before .before .before .fits .flow))
-        at (c .before .before .before .before .run .ensures .1 .1),
-  ),
-)
+returns c =
+    let at-run = c .before .before .before .before in
+    let at-start = at-run .before .before .before .before in (
+      c .of-walk .ensures
+          ∙ ap walkAnswer (rw (back (at-start .fits .flow))
+          at (at-run .run .ensures .0)),
+      (
+        rw (back (at-start .fits .flow))
+            at (at-run .run .ensures .1 .0),
+        rw (back (at-start .fits .flow))
+            at (at-run .run .ensures .1 .1),
+      ),
+    )
 
 pub fernpocket-run-spec : {M : Type 1} → statement M
 fernpocket-run-spec =

@@ -15,8 +15,8 @@ enum-known-r c = search needs
 enum-known-h : tie.Need-enum-known-h
 enum-known-h c = search needs
 
-path-lent-requires : tie.Need-path-lent-requires
-path-lent-requires c κs =
+steps-or-requires : tie.Need-steps-or-requires
+steps-or-requires c κs =
     let at-open-sheet = c .before .before .before in
     opened-at _ (at-open-sheet .open-sheet .ensures) (c .before .h .given .1) .sheet
 
@@ -38,8 +38,8 @@ returns-2 : tie.Need-returns-2
 unfolding flowRungs
 returns-2 c =
     let at-exists = c .before .before in
-    let at-path-lent = at-exists .before in
-    let at-h = at-path-lent .before .before in
+    let at-steps-or = at-exists .before in
+    let at-h = at-steps-or .before .before in
     let at-open-sheet = at-h .before .before in
     let at-start = at-open-sheet .before in
     climb-goes _ (at-open-sheet .open-sheet .ensures) (at-h .h .given .1) (c .reached .ensures)
@@ -47,7 +47,7 @@ returns-2 c =
       then-none,
       then-none,
       c .before .judge-call .ensures,
-      at-path-lent .path-lent .ensures,
+      at-steps-or .steps-or .ensures,
       at-exists .exists .ensures,
       back (at-start .fits .flow),
     ))
@@ -59,7 +59,7 @@ climb-flow-spec =
     open-sheet-requires
     enum-known-r
     enum-known-h
-    path-lent-requires
+    steps-or-requires
     exists-requires
     judge-call-requires
     reached-requires

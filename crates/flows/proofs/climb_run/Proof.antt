@@ -1,8 +1,9 @@
 -- `flows::climb_run` meets its contract: rung by rung. Assumes nothing.
 use mathlib.Core.Path.{sym, _∙_}
 use Rattle.signed.proofs.Fit.{back}
+use borrow.Author.Tests.{eq-eqb}
 use Rattle.tables.proofs.Bools.{tests}
-use Rattle.ladder.proofs.ClimbLaws.{called, before-done, opened-at, climb-stops, climb-goes}
+use Rattle.ladder.proofs.ClimbLaws.{asked-after, called, before-done, opened-at, climb-stops, climb-goes}
 use Rattle.calls.specs.Flows.{runRungs}
 use borrow.Author.Needs.{needs}
 use Rattle.flows.proofs.climb_run.Statement.{statement}
@@ -20,33 +21,44 @@ enum-known-h c = search needs
 facts-lent-requires : tie.Need-facts-lent-requires
 facts-lent-requires c κs = search needs
 
-path-lent-requires : tie.Need-path-lent-requires
-path-lent-requires c κs =
+steps-or-requires : tie.Need-steps-or-requires
+steps-or-requires c κs =
     let at-h = c .before .before .before in
     let at-open-sheet = at-h .before .before in
     opened-at _ (at-open-sheet .open-sheet .ensures) (at-h .h .given .1) .sheet
 
-exists-requires : tie.Need-exists-requires
-exists-requires c κs = search needs
+steps-or-requires-2 : tie.Need-steps-or-requires-2
+steps-or-requires-2 c κs =
+    let at-h = c .before .before .before .before in
+    let at-open-sheet = at-h .before .before in
+    opened-at _ (at-open-sheet .open-sheet .ensures) (at-h .h .given .1) .sheet
+
+run-named-requires : tie.Need-run-named-requires
+run-named-requires c κs =
+    let at-h = c .before .before .before .before .before in
+    let at-open-sheet = at-h .before .before in (
+      opened-at _ (at-open-sheet .open-sheet .ensures) (at-h .h .given .1) .sheet,
+      λ d. eq-eqb _ _ ((simp tests at d) .0 .1 ∙ c .before .steps-or .ensures),
+    )
 
 judge-call-requires : tie.Need-judge-call-requires
 judge-call-requires c κs = search needs
 
 then-facts-requires : tie.Need-then-facts-requires
 then-facts-requires c κs =
-    let at-facts-lent = c .before .before .before .before in
+    let at-facts-lent = c .before .before .before .before .before in
     let at-h = at-facts-lent .before .before in
     let at-open-sheet = at-h .before .before in (
       opened-at _ (at-open-sheet .open-sheet .ensures) (at-h .h .given .1) .sheet,
-      λ d. sym (at-facts-lent .facts-lent .ensures) ∙ (simp tests at (called (c .judge-call .ensures) d .0)) .0 .0,
+      λ d. sym (at-facts-lent .facts-lent .ensures) ∙ (simp tests at (called (c .judge-call .ensures) d .0)) .0 .0 .0,
     )
 
 then-states-requires : tie.Need-then-states-requires
 then-states-requires c κs =
-    let at-h = c .before .before .before .before .before .before .before in
+    let at-h = c .before .before .before .before .before .before .before .before in
     let at-open-sheet = at-h .before .before in (
       opened-at _ (at-open-sheet .open-sheet .ensures) (at-h .h .given .1) .sheet,
-      λ d. (simp tests at (called (c .before .judge-call .ensures) (before-done _ _ (c .then-facts .ensures) d) .0)) .0 .1,
+      λ d. (simp tests at (called (c .before .judge-call .ensures) (before-done _ _ (c .then-facts .ensures) d) .0)) .0 .0 .1,
     )
 
 reached-requires : tie.Need-reached-requires
@@ -62,9 +74,10 @@ unfolding runRungs
 returns-2 c =
     let at-then-facts = c .before .before in
     let at-judge-call = at-then-facts .before in
-    let at-exists = at-judge-call .before in
-    let at-path-lent = at-exists .before in
-    let at-facts-lent = at-path-lent .before .before in
+    let at-run-named = at-judge-call .before in
+    let at-steps-or2 = at-run-named .before in
+    let at-steps-or = at-steps-or2 .before in
+    let at-facts-lent = at-steps-or .before .before in
     let at-h = at-facts-lent .before .before in
     let at-open-sheet = at-h .before .before in
     let at-start = at-open-sheet .before in
@@ -73,9 +86,11 @@ returns-2 c =
       c .before .then-states .ensures,
       at-then-facts .then-facts .ensures,
       at-judge-call .judge-call .ensures,
+      at-run-named .run-named .ensures,
+      asked-after,
       at-facts-lent .facts-lent .ensures,
-      at-path-lent .path-lent .ensures,
-      at-exists .exists .ensures,
+      at-steps-or .steps-or .ensures,
+      at-steps-or2 .steps-or2 .ensures,
       back (at-start .fits .flow),
     ))
 
@@ -87,8 +102,9 @@ climb-run-spec =
     enum-known-r
     enum-known-h
     facts-lent-requires
-    path-lent-requires
-    exists-requires
+    steps-or-requires
+    steps-or-requires-2
+    run-named-requires
     judge-call-requires
     then-facts-requires
     then-states-requires

@@ -13,7 +13,7 @@ run-requires : tie.Need-run-requires
 run-requires c κs =
     let at-settle = c .before .before .before .before .before .before in
     let at-start = at-settle .before .before .before .before in
-    runnable (at-start .pre .0) (at-settle .settle .ensures .0) (at-settle .settle .ensures .1)
+    (runnable (at-start .pre .0) (at-settle .settle .ensures .0) (at-settle .settle .ensures .1), at-start .pre .0 .wanted)
 
 same-length : tie.Need-same-length
 same-length c = search needs

@@ -1,17 +1,18 @@
--- `operation::choose` meets its contract: the walk passes the outcomes that are not applicable. Assumes nothing.
-use Rattle.operation.proofs.FirstOutcome.{
+-- `operation::choose` meets its contract: the choice so far, outcome by outcome. Assumes nothing.
+use borrow.Author.Needs.{needs}
+use Rattle.operation.proofs.OutcomeLoop.{
   Passed,
   Checked,
   unchecked,
   checked-more,
   outset,
   few,
-  another,
-  nothing,
+  next-exists,
+  all-passed,
   reads,
   ends-early,
   blocked,
-  found,
+  passed-on,
 }
 use mathlib.Core.Path.{refl}
 use Rattle.words.specs.Record.{recordAt}
@@ -23,22 +24,22 @@ use Rattle.operation.proofs.choose.Statement.{statement}
 use Rattle.operation.proofs.choose.Tie as tie
 
 abbrev Inv-loop : tie.InvT-loop
-Inv-loop s h states o outcomes at₀ j₀ found stop d₀ at j d = Checked s h found at₀ j₀ stop at j d
+Inv-loop s h states o wanted outcomes at₀ j₀ choice found stop d₀ at j d = Checked s h found at₀ j₀ stop at j d
 
 abbrev μ-loop : tie.MeasureT-loop
-μ-loop s h states o outcomes at₀ j₀ found stop d₀ at j d = stop - d
+μ-loop s h states o wanted outcomes at₀ j₀ choice found stop d₀ at j d = stop - d
 
 abbrev Inv-outcomes : tie.InvT-outcomes
-Inv-outcomes s h states o outcomes at₀ j₀ at j = Passed s h states (o .0) j at
+Inv-outcomes s h states o wanted outcomes at₀ j₀ choice₀ at j choice = Passed s h states (o .0) wanted j at choice
 
 abbrev μ-outcomes : tie.MeasureT-outcomes
-μ-outcomes s h states o outcomes at₀ j₀ at j = outcomes - j
+μ-outcomes s h states o wanted outcomes at₀ j₀ choice₀ at j choice = outcomes - j
 
 effects-of-requires : tie.Need-effects-of-requires Inv-loop μ-loop Inv-outcomes μ-outcomes
 effects-of-requires c κs = (c .pre .accepted, c .pre .exists)
 
 outcomes-holds : tie.Need-outcomes-holds Inv-loop μ-loop Inv-outcomes μ-outcomes
-outcomes-holds c = outset (c .before .pre) _ (c .effects-of .ensures)
+outcomes-holds c = outset (c .before .pre) _ _ (c .effects-of .ensures)
 
 slice-aggregate-collect : tie.Need-slice-aggregate-collect Inv-loop μ-loop Inv-outcomes μ-outcomes
 slice-aggregate-collect c = refl
@@ -59,7 +60,7 @@ effect-word-requires c κs =
     let at-start = at-outcomes .before .before in (
       at-start .pre .accepted .sized,
       (
-        reads (at-start .pre) _ _ _ _ (at-outcomes .outcomes .inv) (at-collect .collect .ensures) _ (c .before .loop .inv .order)
+        reads (at-start .pre) _ _ _ _ _ _ (at-outcomes .outcomes .inv) (at-collect .collect .ensures) _ (c .before .loop .inv .order)
             (c .loop-test .taken) .exists,
         lit< tt,
       ),
@@ -72,7 +73,7 @@ array-read-if2 c =
     let at-collect = at-loop .before .before in
     let at-outcomes = at-collect .before .before .before in
     let at-start = at-outcomes .before .before in
-    rw (c .effect-word .ensures) (has-flag (reads (at-start .pre) _ _ _ _ (at-outcomes .outcomes .inv) (at-collect .collect .ensures) _
+    rw (c .effect-word .ensures) (has-flag (reads (at-start .pre) _ _ _ _ _ _ (at-outcomes .outcomes .inv) (at-collect .collect .ensures) _
     (at-loop .loop .inv .order) (c .before .loop-test .taken)))
 
 add-j : tie.Need-add-j Inv-loop μ-loop Inv-outcomes μ-outcomes
@@ -80,7 +81,7 @@ add-j c =
     let at-loop = c .before .before .before in
     let at-outcomes = at-loop .before .before .before .before .before in
     let at-start = at-outcomes .before .before in
-    omega (arith, at-loop .loop .inv .same-j, few (at-start .pre) _ _ (at-outcomes .outcomes .inv))
+    omega (arith, at-loop .loop .inv .same-j, few (at-start .pre) _ _ _ _ (at-outcomes .outcomes .inv))
 
 outcomes-less : tie.Need-outcomes-less Inv-loop μ-loop Inv-outcomes μ-outcomes
 outcomes-less c =
@@ -93,7 +94,7 @@ outcomes-less c =
       arith,
       at-loop .loop .inv .same-j,
       outcomes-is _ _ _ _ (at-effects-of .effects-of .ensures),
-      another (at-start .pre) _ (at-effects-of .effects-of .ensures) _ _ (at-outcomes .outcomes .inv) (at-if1 .if1 .left),
+      next-exists (at-start .pre) _ _ (at-effects-of .effects-of .ensures) _ _ _ (at-outcomes .outcomes .inv) (at-if1 .if1 .left),
     )
 
 outcomes-again : tie.Need-outcomes-again Inv-loop μ-loop Inv-outcomes μ-outcomes
@@ -106,9 +107,9 @@ outcomes-again c =
     let at-outcomes = at-if1 .before in
     let at-effects-of = at-outcomes .before in
     let at-start = at-effects-of .before in
-    blocked (at-start .pre) _ _ _ _ (at-outcomes .outcomes .inv) (at-collect .collect .ensures) _ _ _ _ (at-loop .loop .inv)
+    blocked (at-start .pre) _ _ _ _ _ _ (at-outcomes .outcomes .inv) (at-collect .collect .ensures) _ _ _ _ (at-loop .loop .inv)
     (at-loop-test .loop-test .taken)
-    (another (at-start .pre) _ (at-effects-of .effects-of .ensures) _ _ (at-outcomes .outcomes .inv) (at-if1 .if1 .left))
+    (next-exists (at-start .pre) _ _ (at-effects-of .effects-of .ensures) _ _ _ (at-outcomes .outcomes .inv) (at-if1 .if1 .left))
     (c .before .effect-word .ensures) (c .if2 .taken)
 
 add-d : tie.Need-add-d Inv-loop μ-loop Inv-outcomes μ-outcomes
@@ -116,7 +117,7 @@ add-d c =
     let at-collect = c .before .before .before .before .before in
     let at-outcomes = at-collect .before .before .before in
     let at-start = at-outcomes .before .before in
-    omega (arith, ends-early (at-start .pre) _ _ _ _ (at-outcomes .outcomes .inv) (at-collect .collect .ensures))
+    omega (arith, ends-early (at-start .pre) _ _ _ _ _ _ (at-outcomes .outcomes .inv) (at-collect .collect .ensures))
 
 loop-less : tie.Need-loop-less Inv-loop μ-loop Inv-outcomes μ-outcomes
 loop-less c = omega arith
@@ -132,22 +133,47 @@ returns : tie.Need-returns Inv-loop μ-loop Inv-outcomes μ-outcomes
 returns c =
     let at-effects-of = c .before .before in
     let at-start = at-effects-of .before in
-    nothing (at-start .pre) _ (at-effects-of .effects-of .ensures) _ _ (c .before .outcomes .inv) (c .if1 .taken)
+    all-passed (at-start .pre) _ _ (at-effects-of .effects-of .ensures) _ _ _ (c .before .outcomes .inv) (c .if1 .taken)
 
-returns-2 : tie.Need-returns-2 Inv-loop μ-loop Inv-outcomes μ-outcomes
-returns-2 c =
-    let at-collect = c .before .before .before in
+counted-requires : tie.Need-counted-requires Inv-loop μ-loop Inv-outcomes μ-outcomes
+counted-requires c κs = search needs
+
+add-j-2 : tie.Need-add-j-2 Inv-loop μ-loop Inv-outcomes μ-outcomes
+add-j-2 c =
+    let at-loop = c .before .before in
+    let at-outcomes = at-loop .before .before .before .before .before in
+    let at-start = at-outcomes .before .before in
+    omega (arith, at-loop .loop .inv .same-j, few (at-start .pre) _ _ _ _ (at-outcomes .outcomes .inv))
+
+outcomes-less-2 : tie.Need-outcomes-less-2 Inv-loop μ-loop Inv-outcomes μ-outcomes
+outcomes-less-2 c =
+    let at-loop = c .before .before in
+    let at-if1 = at-loop .before .before .before .before in
+    let at-outcomes = at-if1 .before in
+    let at-effects-of = at-outcomes .before in
+    let at-start = at-effects-of .before in
+    omega (
+      arith,
+      at-loop .loop .inv .same-j,
+      outcomes-is _ _ _ _ (at-effects-of .effects-of .ensures),
+      next-exists (at-start .pre) _ _ (at-effects-of .effects-of .ensures) _ _ _ (at-outcomes .outcomes .inv) (at-if1 .if1 .left),
+    )
+
+outcomes-again-2 : tie.Need-outcomes-again-2 Inv-loop μ-loop Inv-outcomes μ-outcomes
+outcomes-again-2 c =
+    let at-loop = c .before .before in
+    let at-collect = at-loop .before .before in
     let at-if1 = at-collect .before .before in
     let at-outcomes = at-if1 .before in
     let at-effects-of = at-outcomes .before in
     let at-start = at-effects-of .before in
-    found (at-start .pre) _ _ _ _ (at-outcomes .outcomes .inv) (at-collect .collect .ensures) _ _ _ (c .before .loop .inv) (c .loop-test .left)
-    (another (at-start .pre) _ (at-effects-of .effects-of .ensures) _ _ (at-outcomes .outcomes .inv) (at-if1 .if1 .left))
+    passed-on (at-start .pre) _ _ _ _ _ _ (at-outcomes .outcomes .inv) (at-collect .collect .ensures) _ _ _ (at-loop .loop .inv)
+    (c .before .loop-test .left)
+    (next-exists (at-start .pre) _ _ (at-effects-of .effects-of .ensures) _ _ _ (at-outcomes .outcomes .inv) (at-if1 .if1 .left))
+    _ (c .counted .ensures)
 
 pub choose-spec : {M : Type 1} → statement M
-choose-spec =
-    tie.close
-    (tie.spec
+choose-spec = tie.close (tie.spec
     Inv-loop
     μ-loop
     Inv-outcomes
@@ -165,5 +191,8 @@ choose-spec =
     add-d
     loop-less
     loop-again
-    returns
-    returns-2)
+    counted-requires
+    add-j-2
+    outcomes-less-2
+    outcomes-again-2
+    returns)

@@ -1,6 +1,6 @@
 -- `path_lines::refusal` meets its contract: the word, the number, the place. Assumes nothing.
 use Rattle.path_lines.proofs.Writing.{refused-room, refused-number, refused-place, refused-done}
-use Rattle.path_lines.proofs.Opening.{number-low}
+use Rattle.answer.proofs.Numbers.{number-range}
 use native.Mathlib.Omega.{arith}
 use borrow.Author.Needs.{needs}
 use Rattle.path_lines.proofs.refusal.Statement.{statement}
@@ -24,7 +24,7 @@ put-number-requires c κs =
     let at-place = at-put-refused .before .before in
     let at-number = at-place .before in
     let at-start = at-number .before .before in (
-      omega (arith, at-number .number .ensures, at-place .place .ensures, number-low (at-start .args .r), at-start .pre .0),
+      omega (arith, at-number .number .ensures, at-place .place .ensures, number-range (at-start .args .r) .1, at-start .pre .0),
       refused-number _ (at-number .number .ensures) (at-place .place .ensures) (at-start .args .out .now) (at-start .pre .1)
           (at-put-refused .put-refused .ensures),
     )

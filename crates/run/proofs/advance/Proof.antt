@@ -39,7 +39,7 @@ returns c =
     let at-perform-step = c .before .before .before .before .before in
     let at-if1 = at-perform-step .before .before .before .before in
     let at-step-word = at-if1 .before in
-    let k = took-operation _ _ _ _ _ _ _ _ (eq-eqb _ 0 (sym (at-step-word .step-word .ensures) ∙ at-if1 .if1 .taken))
+    let k = took-operation _ _ _ _ _ _ _ _ _ (eq-eqb _ 0 (sym (at-step-word .step-word .ensures) ∙ at-if1 .if1 .taken))
     (at-perform-step .perform-step .ensures .0) (at-perform-step .perform-step .ensures .1 .0) in
     (k .0, (k .1, at-perform-step .perform-step .ensures .1 .1))
 
@@ -48,7 +48,7 @@ unfolding recordAt
 returns-2 c =
     let at-step-word = c .before .before in
     let at-start = at-step-word .before .before .before in
-    let k = took-branch _ _ _ _ _ _ _ (ne-eqb _ 0 (λ z. c .before .if1 .left (at-step-word .step-word .ensures ∙ z))) (c .branch .ensures) in
+    let k = took-branch _ _ _ _ _ _ _ _ (ne-eqb _ 0 (λ z. c .before .if1 .left (at-step-word .step-word .ensures ∙ z))) (c .branch .ensures) in
     (k .0, (k .1, at-start .pre .1 .1))
 
 pub advance-spec : {M : Type 1} → statement M

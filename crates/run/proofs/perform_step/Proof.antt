@@ -54,7 +54,7 @@ add-result c =
     omega (
       arith,
       outcome-fits (at-start .pre .0) (at-start .pre .1 .0 .0) (at-start .pre .1 .0 .1) (at-first-route .first-route .ensures)
-          (at-step-word .step-word .ensures) (at-step-word2 .step-word2 .ensures) (at-recall .recall .ensures .0)
+          (at-step-word .step-word .ensures) (at-step-word2 .step-word2 .ensures) _ (at-recall .recall .ensures .0)
           (at-attempt-known .attempt-known .ensures .0) (at-attempt-known .attempt-known .ensures .1) _ (c .before .j .given .1),
       at-start .pre .0 .accepted .sized .limits .routes,
     )
@@ -95,7 +95,7 @@ returns c =
     let at-first-route = at-step-word .before .before in
     let at-start = at-first-route .before .before .before in
     let k = by-outcome (at-start .pre .0) (at-start .pre .1 .0 .0) (at-start .pre .1 .0 .1) (at-first-route .first-route .ensures)
-    (at-step-word .step-word .ensures) (at-step-word2 .step-word2 .ensures) (at-recall .recall .ensures .0)
+    (at-step-word .step-word .ensures) (at-step-word2 .step-word2 .ensures) _ (at-recall .recall .ensures .0)
     (at-attempt-known .attempt-known .ensures .0) (at-attempt-known .attempt-known .ensures .1) _ (c .before .j .given .1) in
     (k .0, (k .1, at-recall .recall .ensures .1))
 
@@ -119,7 +119,7 @@ returns-2 c =
     let at-first-route = at-routes .before in
     let at-start = at-first-route .before .before .before in
     let k = by-failure (at-start .pre .0) (at-start .pre .1 .0 .0) (at-start .pre .1 .0 .1) (at-first-route .first-route .ensures)
-    (at-step-word .step-word .ensures) (at-step-word2 .step-word2 .ensures) (at-recall .recall .ensures .0)
+    (at-step-word .step-word .ensures) (at-step-word2 .step-word2 .ensures) _ (at-recall .recall .ensures .0)
     (at-attempt-known .attempt-known .ensures .0) (at-attempt-known .attempt-known .ensures .1) _ _ (c .enum-told .given .1)
     (at-routes .routes .ensures) in
     (k .0, (k .1, at-recall .recall .ensures .1))

@@ -1,11 +1,11 @@
--- `flows::path_lent` meets its contract. Assumes nothing.
+-- `flows::steps_or` meets its contract. Assumes nothing.
 use mathlib.Core.Path.{sym, _∙_}
 use borrow.Author.Tests.{ltb-true}
 use Rattle.signed.proofs.Fit.{back}
-use Rattle.flows.proofs.FlowCallLaws.{path-judged, path-unjudged}
+use Rattle.flows.proofs.FlowCallLaws.{steps-judged, steps-unjudged}
 use borrow.Author.Needs.{needs}
-use Rattle.flows.proofs.path_lent.Statement.{statement}
-use Rattle.flows.proofs.path_lent.Tie as tie
+use Rattle.flows.proofs.steps_or.Statement.{statement}
+use Rattle.flows.proofs.steps_or.Tie as tie
 
 exists-requires : tie.Need-exists-requires
 exists-requires c κs = search needs
@@ -28,12 +28,12 @@ returns c =
     let at-exists = at-if1 .before in
     let at-start = at-exists .before in
     rw (c .steps .ensures, c .before .num .ensures, back (at-start .fits .flow))
-    (sym (path-judged _ _ _ _ (sym (rw (back (at-start .fits .flow)) at (at-exists .exists .ensures)) ∙ at-if1 .if1 .taken)))
+    (sym (steps-judged _ _ _ _ (sym (rw (back (at-start .fits .flow)) at (at-exists .exists .ensures)) ∙ at-if1 .if1 .taken)))
 
 returns-2 : tie.Need-returns-2
 returns-2 c =
     let at-start = c .before .before in
-    sym (path-unjudged _ _ _ _ (sym (rw (back (at-start .fits .flow)) at (c .before .exists .ensures)) ∙ c .if1 .left))
+    sym (steps-unjudged _ _ _ _ (sym (rw (back (at-start .fits .flow)) at (c .before .exists .ensures)) ∙ c .if1 .left))
 
-pub path-lent-spec : {M : Type 1} → statement M
-path-lent-spec = tie.close (tie.spec exists-requires num-requires steps-requires returns returns-2)
+pub steps-or-spec : {M : Type 1} → statement M
+steps-or-spec = tie.close (tie.spec exists-requires num-requires steps-requires returns returns-2)

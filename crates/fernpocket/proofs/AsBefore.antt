@@ -1,0 +1,115 @@
+-- With −1 an operation call answers what 01's own rule answered, unless it is refused 16.
+-- Assumes nothing.
+use mathlib.Core.Path.{_≡_, refl, sym, ap, _∙_}
+use mathlib.Core.Bool.{Bool, true, false, not, _&&_}
+use mathlib.Core.List.{List}
+use Prim.Native.Nat.{ℕ, _<_}
+use lib.IntN.{ℤ, pos, negsuc}
+use native.Mathlib.Omega.{arith}
+use native.Mathlib.Decide.{decLt}
+use borrow.Author.Tests.{lt-ltb, le-ltb, not-true, not-false}
+use Rattle.tables.proofs.Bools.{true-false, and-yes}
+use Rattle.tables.proofs.Scanned.{Scanned, first-scan}
+use Rattle.signed.specs.Words.{num}
+use Rattle.answer.specs.declared.Refusal.{Refusal}
+use Rattle.answer.specs.declared.Refusal.the-variants.{ManyOutcomes}
+use Rattle.answer.specs.declared.Status.{Status}
+use Rattle.answer.specs.declared.Count.{Count}
+use Rattle.answer.specs.declared.Count.the-variants.{Is, Refused as NoCount}
+use Rattle.answer.specs.Answers.{countAnswer}
+use Rattle.layout.specs.declared.Header.{Header}
+use Rattle.layout.specs.Header.{headerOf}
+use Rattle.records.specs.Operations.{outcomes}
+use Rattle.operation.specs.declared.Choice.{Choice}
+use Rattle.operation.specs.declared.Choice.the-variants.{Outcome, Nothing, Several}
+use Rattle.operation.specs.declared.Wanted.the-variants.{Any}
+use Rattle.operation.specs.Outcomes.{wantedOf, goodWanted, only, choice, applicable, chosen}
+use Rattle.operation.proofs.Choices.{Tally, none, one, several, tally, any-word}
+use Rattle.attempt.specs.Attempts.{attemptAnswer, attempted, statesAfter, attemptedStates}
+use Rattle.ladder.specs.declared.Climbed.{Climbed}
+use Rattle.ladder.specs.declared.Climbed.the-variants.{At, Stopped}
+use Rattle.ladder.specs.Ladder.{opened, reached, climb, by, left, exists}
+use Rattle.ladder.proofs.ClimbLaws.{worked}
+use Rattle.calls.specs.Evaluation.{wantedExists, operateRungs, operateClimb, attemptedOver, attemptedStatesOver, operateAnswer, operateStates}
+use Rattle.fernpocket.specs.Before.{firstApplicable, firstChoice, attemptedBefore, rungsBefore, climbBefore, overBefore, operateBefore, statesBefore}
+use Rattle.fernpocket.specs.Promised.{TwoApply}
+use Rattle.fernpocket.proofs.InNumbers.{sixteen}
+
+-- ---- the choice
+
+-- the only applicable outcome is the first
+any-first : (f : ℕ → Bool) (n : ℕ) → (choice f n Any ≡ Several → ⊥) → choice f n Any ≡ firstChoice f n
+unfolding choice firstChoice firstApplicable
+any-first f n x = go (only f n) (tally f n) x (decLt m n)
+  where
+    m : ℕ
+    m = firstApplicable f n
+
+    found : Scanned (λ j. not (f j)) 0 n m
+    found = first-scan (λ j. not (f j)) n
+
+    go : (c : Choice) → Tally f n c → (c ≡ Several → ⊥) → Dec (m < n) → c ≡ firstChoice f n
+    go Nothing (none k) x (yes l) = absurd (true-false (not-false (f m) (found .fails l)) (k m l))
+    go Nothing (none k) x (no l) = rw (le-ltb m n (omega arith))
+    go (Outcome _) (one j o) x (yes l) = let e = o .alone m l (not-false (f m) (found .fails l)) in rw (lt-ltb m n l, e)
+    go (Outcome _) (one j o) x (no l) = absurd (true-false (o .applies) (not-true (f j) (found .passed j (omega arith) (omega (arith, o .exists)))))
+    go Several (several t) x l = absurd (x refl)
+
+-- ---- the attempt
+
+same-answer : (a t : Bool) (c d : Choice) → ((c ≡ Several → ⊥) → c ≡ d) → (attemptAnswer a t c ≡ NoCount ManyOutcomes → ⊥)
+    → attemptAnswer a t c ≡ attemptAnswer a t d
+unfolding attemptAnswer
+same-answer false t c d e x = refl
+same-answer true false c d e x = refl
+same-answer true true (Outcome j) d e x = ap (attemptAnswer true true) (e (λ z. let y : _≡_ {A = ℕ} 0 1 = cc in omega arith))
+same-answer true true Nothing d e x = ap (attemptAnswer true true) (e (λ z. let y : _≡_ {A = ℕ} 0 1 = cc in omega arith))
+same-answer true true Several d e x = absurd (x refl)
+
+-- ---- the ladder: −1 is never refused
+
+climb-same : (o : Climbed) (f g : Header → Status) → ((h : Header) → f h ≡ g h) → climb o f ≡ climb o g
+unfolding climb by
+climb-same (At h) f g e = ap (λ (t : Status). reached t h) (e h)
+climb-same (Stopped r) f g e = refl
+
+by-same : {A : Type 0} (c : Climbed) (f : Refusal → A) (g k : Header → A) → ((h : Header) → c ≡ At h → g h ≡ k h) → by c f g ≡ by c f k
+unfolding by
+by-same (At h) f g k e = e h refl
+by-same (Stopped r) f g k e = refl
+
+-- ---- the call
+
+module _ (s values given states : List ℤ) (p o : ℤ) where
+  same-rungs : (h : Header) → operateRungs s values given states p o (negsuc 0) h ≡ rungsBefore s values given states p o h
+  unfolding operateRungs rungsBefore wantedExists goodWanted
+  same-rungs h = rw (any-word refl, and-yes (exists o (h .operations)))
+
+  same-climb : operateClimb s values given states p o (negsuc 0) ≡ climbBefore s values given states p o
+  same-climb =
+      climb-same (opened s) (operateRungs s values given states p o (negsuc 0)) (rungsBefore s values given states p o) same-rungs
+
+  module _ (x : countAnswer (operateAnswer s values given states p o (negsuc 0)) .refusal ≡ pos 16 → ⊥) where
+    same-over : (h : Header) → operateClimb s values given states p o (negsuc 0) ≡ At h
+        → attemptedOver s h values given states (num p) (num o) (wantedOf (negsuc 0)) ≡ overBefore s h values given states (num p) (num o)
+    unfolding attempted attemptedBefore chosen
+    same-over h e =
+        same-answer _ _ (chosen s h states (num o) (wantedOf (negsuc 0))) (firstChoice (applicable s h states (num o)) (outcomes s h (num o)))
+        (rw (any-word refl) (any-first (applicable s h states (num o)) (outcomes s h (num o))))
+        (λ z. x (ap (λ (a : Count). countAnswer a .refusal) (sym (worked _ _ refl e refl) ∙ z)))
+
+    pub before-unless-16 : (operateAnswer s values given states p o (negsuc 0) ≡ operateBefore s values given states p o)
+        × (operateStates s values given states p o (negsuc 0) ≡ statesBefore s values given states p o)
+    unfolding attemptedStates
+    before-unless-16 = (
+      by-same (operateClimb s values given states p o (negsuc 0)) NoCount _ _ same-over
+          ∙ ap (λ (c : Climbed). by c NoCount (λ h. overBefore s h values given states (num p) (num o))) same-climb,
+      by-same (operateClimb s values given states p o (negsuc 0)) (λ _. states) _ _
+          (λ h e. ap (statesAfter s h states (num o)) (same-over h e))
+          ∙ ap (λ (c : Climbed). left c states (λ h. statesAfter s h states (num o) (overBefore s h values given states (num p) (num o)))) same-climb,
+    )
+
+  -- of one outcome there are not two
+  pub one-never-16 : outcomes s (headerOf s) (num o) ≡ 1
+      → countAnswer (operateAnswer s values given states p o (negsuc 0)) .refusal ≡ pos 16 → ⊥
+  one-never-16 n e = let t = sixteen s values given states p o (negsuc 0) e .1 in omega (arith, t .order, t .exists)

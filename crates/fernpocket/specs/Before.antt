@@ -1,0 +1,59 @@
+-- 01's own rule of "Operation (004)", which 02's CR 1 replaces: "the first applicable outcome in declared order is chosen"; and what an
+-- operation call answered and left by it. No contract cites it: the law `as-before` does.
+-- Assumes nothing.
+use mathlib.Core.Bool.{Bool, not, cond, _&&_}
+use mathlib.Core.List.{List}
+use Prim.Native.Nat.{ℕ}
+use lib.IntN.{ℤ}
+use lib.Dec.{ltb}
+use Rattle.tables.specs.Scan.{firstFail}
+use Rattle.signed.specs.Words.{num}
+use Rattle.answer.specs.declared.Status.{Status}
+use Rattle.answer.specs.declared.Count.{Count}
+use Rattle.answer.specs.declared.Count.the-variants.{Refused as NoCount}
+use Rattle.layout.specs.declared.Header.{Header}
+use Rattle.records.specs.Operations.{outcomes}
+use Rattle.facts.specs.Faults.{factsFault}
+use Rattle.facts.specs.Assembled.{assembled}
+use Rattle.predicate.specs.Values.{truth}
+use Rattle.predicate.specs.Verdicts.{verdictsOf}
+use Rattle.operation.specs.Mask.{allowed}
+use Rattle.operation.specs.States.{statesFault}
+use Rattle.operation.specs.declared.Choice.{Choice}
+use Rattle.operation.specs.declared.Choice.the-variants.{Outcome, Nothing}
+use Rattle.operation.specs.Outcomes.{applicable}
+use Rattle.attempt.specs.Attempts.{precondition, attemptAnswer, statesAfter}
+use Rattle.ladder.specs.declared.Climbed.{Climbed}
+use Rattle.ladder.specs.Ladder.{rungs, opened, climb, by, left, exists, matches, factsLent}
+
+-- the first applicable outcome of n, or n where none is
+unfoldable pub firstApplicable : (ℕ → Bool) → ℕ → ℕ
+firstApplicable applies n = firstFail (λ j. not (applies j)) 0 n
+
+unfoldable pub firstChoice : (ℕ → Bool) → ℕ → Choice
+firstChoice applies n = cond (ltb (firstApplicable applies n) n) (Outcome (firstApplicable applies n)) Nothing
+
+unfoldable pub attemptedBefore : List ℤ → Header → List ℤ → List ℤ → List ℤ → ℕ → ℕ → Count
+attemptedBefore s h facts verdicts states p o =
+    attemptAnswer (allowed s h o p) (truth s h facts verdicts (precondition s h o)) (firstChoice (applicable s h states o) (outcomes s h o))
+
+unfoldable pub rungsBefore : List ℤ → List ℤ → List ℤ → List ℤ → ℤ → ℤ → Header → Status
+rungsBefore s values given states p o h =
+    rungs (factsLent h values given && matches states (h .entities)) (exists p (h .personas) && exists o (h .operations))
+    (factsFault s h values given)
+    (statesFault s h states)
+
+abbrev pub climbBefore : List ℤ → List ℤ → List ℤ → List ℤ → ℤ → ℤ → Climbed
+climbBefore s values given states p o = climb (opened s) (rungsBefore s values given states p o)
+
+abbrev pub overBefore : List ℤ → Header → List ℤ → List ℤ → List ℤ → ℕ → ℕ → Count
+overBefore s h values given states p o = let facts = assembled s h values given in attemptedBefore s h facts (verdictsOf s h facts) states p o
+
+abbrev pub operateBefore : List ℤ → List ℤ → List ℤ → List ℤ → ℤ → ℤ → Count
+operateBefore s values given states p o =
+    by (climbBefore s values given states p o) NoCount (λ h. overBefore s h values given states (num p) (num o))
+
+abbrev pub statesBefore : List ℤ → List ℤ → List ℤ → List ℤ → ℤ → ℤ → List ℤ
+statesBefore s values given states p o =
+    left (climbBefore s values given states p o) states
+    (λ h. statesAfter s h states (num o) (overBefore s h values given states (num p) (num o)))

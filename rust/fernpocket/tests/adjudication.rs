@@ -1,0 +1,59 @@
+//! The claims contract of examples/adjudication.md through the crate: a claim is rejected though it could be approved.
+
+use fernpocket::{check, operate, read_text, run, Path, Refusal, Terminal};
+
+// The names of examples/adjudication.md.
+const ADJUDICATOR: usize = 0;
+const CLAIMANT: usize = 1;
+const DECIDE_CLAIM: usize = 0;
+const APPROVED: usize = 0;
+const REJECTED: usize = 1;
+const ADJUDICATE: usize = 0;
+/// The states of the claim.
+const IN_REVIEW: i64 = 0;
+const IS_REJECTED: i64 = 2;
+
+fn sheet() -> Vec<i64> {
+    let text = include_bytes!("../../../examples/adjudication.txt");
+    let mut words = vec![0; text.len() / 2];
+    let count = read_text(text, &mut words).unwrap();
+    words.truncate(count);
+    assert_eq!(check(&words), Ok(()));
+    words
+}
+
+#[test]
+fn the_adjudicator_says_no() {
+    let (sheet, eligible, given) = (sheet(), [1], [1]);
+    let decide =
+        |states: &mut [i64], persona, wanted| operate(&sheet, &eligible, &given, states, persona, DECIDE_CLAIM, wanted);
+    let mut states = [IN_REVIEW];
+    // Both outcomes start from review: nobody but the caller can say which.
+    assert_eq!(decide(&mut states, ADJUDICATOR, None), Err(Refusal::ManyOutcomes));
+    assert_eq!(decide(&mut states, CLAIMANT, Some(APPROVED)), Err(Refusal::Persona));
+    assert_eq!(states, [IN_REVIEW]);
+
+    assert_eq!(decide(&mut states, ADJUDICATOR, Some(REJECTED)), Ok(REJECTED));
+    assert_eq!(states, [IS_REJECTED]);
+
+    // It is decided: neither applies any more.
+    assert_eq!(decide(&mut states, ADJUDICATOR, Some(APPROVED)), Err(Refusal::NoOutcome));
+    assert_eq!(decide(&mut states, ADJUDICATOR, None), Err(Refusal::NoOutcome));
+    assert_eq!(decide(&mut states, ADJUDICATOR, Some(2)), Err(Refusal::Missing));
+}
+
+#[test]
+fn and_so_in_a_run() {
+    let (sheet, mut path) = (sheet(), [9; 3]);
+    let mut decided = |wanted: &[Option<usize>]| {
+        let mut states = [IN_REVIEW];
+        let end = run(&sheet, &[1], &[1], &mut states, ADJUDICATE, wanted, &mut path);
+        (end, states)
+    };
+    let ends = |terminal| Ok(Path { terminal, length: 1 });
+    assert_eq!(decided(&[Some(REJECTED)]), (ends(Terminal::Failure), [IS_REJECTED]));
+    assert_eq!(decided(&[None]), (ends(Terminal::Escalation), [IN_REVIEW]));
+    assert_eq!(decided(&[]), (Err(Refusal::Length), [IN_REVIEW]));
+    assert_eq!(decided(&[None; 300]), (Err(Refusal::Length), [IN_REVIEW]));
+    assert_eq!(decided(&[Some(2)]), (Err(Refusal::Missing), [IN_REVIEW]));
+}
