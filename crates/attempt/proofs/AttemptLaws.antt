@@ -56,7 +56,8 @@ module _ (s : List ℤ) (h : Header) (t : Bool) (states : List ℤ) (p o : ℕ) 
 -- how an attempt comes out
 pub data Comes (s : List ℤ) (h : Header) (facts verdicts states : List ℤ) (p o : ℕ) (v : Wanted) : Count → Type 0 where
   barred : allowed s h o p ≡ false → Comes s h facts verdicts states p o v (Refused Persona)
-  untrue : allowed s h o p ≡ true → truth s h facts verdicts (precondition s h o) ≡ false → Comes s h facts verdicts states p o v (Refused Precondition)
+  untrue :
+      allowed s h o p ≡ true → truth s h facts verdicts (precondition s h o) ≡ false → Comes s h facts verdicts states p o v (Refused Precondition)
   stuck :
       allowed s h o p ≡ true → truth s h facts verdicts (precondition s h o) ≡ true → chosen s h states o v ≡ Nothing
       → Comes s h facts verdicts states p o v (Refused NoOutcome)
@@ -123,7 +124,8 @@ module _ (s : List ℤ) (h : Header) (facts verdicts states : List ℤ) (p o : �
   outcome-states j e = rw e
 
   -- a refusal leaves the states as they were
-  pub refused-states : (r : Refusal) → attempted s h facts verdicts states p o v ≡ Refused r → attemptedStates s h facts verdicts states p o v ≡ states
+  pub refused-states : (r : Refusal) → attempted s h facts verdicts states p o v ≡ Refused r
+      → attemptedStates s h facts verdicts states p o v ≡ states
   unfolding attemptedStates statesAfter
   refused-states r e = rw e
 

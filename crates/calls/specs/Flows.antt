@@ -1,5 +1,5 @@
--- 01, "Flow" under "Evaluation", and S6, and 02, CR 1: what the calls first, next and run answer, and what they leave in each lent buffer. Each climbs the
--- ladder first.
+-- 01, "Flow" under "Evaluation", and S6, and 02, CR 1: what the calls first, next and run answer, and what they leave in each lent buffer.
+-- Each climbs the ladder first.
 -- Assumes nothing.
 use mathlib.Core.Bool.{Bool, true, false, _&&_}
 use mathlib.Core.List.{List}

@@ -111,4 +111,5 @@ module _ {s : List ℤ} {h : Header} {facts verdicts states : List ℤ} {p o : �
       go : (r : Count) → attempted s h facts verdicts states p o d ≡ r → Reached s h n (present (attemptedStates s h facts verdicts states p o d) n)
       go (Refused r) q = rw (refused-states s h facts verdicts states p o d r q) v
       go (Is j) q =
-          rw (outcome-states s h facts verdicts states p o d j q, ← performed-by s h states o d j (went-so d j q .chosen)) (reached-after (w .ready) d n l v)
+          rw (outcome-states s h facts verdicts states p o d j q, ← performed-by s h states o d j (went-so d j q .chosen))
+          (reached-after (w .ready) d n l v)

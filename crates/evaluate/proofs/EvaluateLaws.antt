@@ -61,7 +61,9 @@ asked s values given states p o v {h} e q =
     let g = passed (w .clear) in
     let z = simp tests at (g .lengths) in
     let y = and-left (exists p (h .personas)) (wantedExists s h o v) (g .numbers) in
-    let x = and-left (exists o (h .operations)) (goodWanted (outcomes s h (num o)) (wantedOf v)) (and-right (exists p (h .personas)) (wantedExists s h o v) (g .numbers)) in
+    let x =
+    and-left (exists o (h .operations)) (goodWanted (outcomes s h (num o)) (wantedOf v))
+    (and-right (exists p (h .personas)) (wantedExists s h o v) (g .numbers)) in
     record {
       known = record { sheet = opened-at s refl (w .sheet) .sheet; all-values = z .0 .0; all-given = z .0 .1; faultless = g .facts };
       lent = states-in s h states (z .1) (g .states);

@@ -105,7 +105,9 @@ module _ (s values given states : List ℤ) (p o v : ℤ) where
 
       changed-yes : (present states n ≡ present after n → ⊥) → Yes (present states n) (present after n)
       changed-yes x =
-          let y = caused (attempt-ready e) (wantedOf v) n (present states n) (present after n) l refl (ap (λ (t : List ℤ). present t n) (sym (made-after e))) x in
+          let y =
+          caused (attempt-ready e) (wantedOf v) n (present states n) (present after n) l refl
+          (ap (λ (t : List ℤ). present t n) (sym (made-after e))) x in
           (admissible-yes (present states n) a-state (y .0), cause-yes (present states n) (present after n) a-state b-state (y .1))
 
       applied-yes : (j k : ℕ) → attemptedOver s (headerOf s) values given states (num p) (num o) (wantedOf v) ≡ Is j

@@ -94,17 +94,20 @@ module _ (s values given states : List ℤ) (persona operation wanted : ℤ) whe
   -- An operation that goes through makes the changes of its chosen outcome that start from the present states, and no others.
   pub operate-changes : (j : ℕ) → Went (countAnswer (operateAnswer s values given states persona operation wanted)) j
       → Operated s values given states persona operation wanted j
-  operate-changes j w = operated s values given states persona operation wanted j (went-is (operateAnswer s values given states persona operation wanted) w)
+  operate-changes j w =
+      operated s values given states persona operation wanted j (went-is (operateAnswer s values given states persona operation wanted) w)
 
   -- 02, CR 1: refused 11, the wanted outcome is not applicable, or with −1 none is.
-  pub eleven-none : countAnswer (operateAnswer s values given states persona operation wanted) .refusal ≡ pos 11 → NoneApplies s states operation wanted
+  pub eleven-none : countAnswer (operateAnswer s values given states persona operation wanted) .refusal ≡ pos 11
+      → NoneApplies s states operation wanted
   eleven-none = eleven s values given states persona operation wanted
 
   -- Of the calls that get as far as the states, exactly those are refused 16 that carry −1 and have two applicable outcomes or more.
   pub sixteen-two : Decided (countAnswer (operateAnswer s values given states persona operation wanted))
       → (countAnswer (operateAnswer s values given states persona operation wanted) .refusal ≡ pos 16)
       ↔ ((wanted ≡ negsuc 0) × TwoApply s states (num operation))
-  sixteen-two d = (sixteen s values given states persona operation wanted, λ t. two-sixteen s values given states persona operation wanted d (t .0) (t .1))
+  sixteen-two d =
+      (sixteen s values given states persona operation wanted, λ t. two-sixteen s values given states persona operation wanted d (t .0) (t .1))
 
   module _ (n : ℕ) (l : n < headerOf s .entities) where
     -- Whatever state an operation call changed, S3a and S4 answer yes to for the persona who made it.
@@ -119,7 +122,8 @@ module _ (s values given states : List ℤ) (persona operation wanted : ℤ) whe
         → Foreseen s persona operation n (effect s (headerOf s) e .w1) (effect s (headerOf s) e .w2)
     effect-foreseen j e w m =
         let y =
-        applied-covered s values given states persona operation wanted n l j e (went-is (operateAnswer s values given states persona operation wanted) w)
+        applied-covered s values given states persona operation wanted n l j e
+        (went-is (operateAnswer s values given states persona operation wanted) w)
         (moves-true s (headerOf s) states (num operation) j n e m) in
         record { admissible = ap countAnswer (y .0); caused = ap countAnswer (y .1) }
 

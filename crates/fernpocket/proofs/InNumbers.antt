@@ -123,7 +123,8 @@ module _ (s values given states : List ℤ) (f : ℤ) (words : List ℤ) (b : Li
   pub ran-path : walkAnswer (runAnswer s values given states f words b) .refusal ≡ pos 0 → RanPath s values given states f words b
   ran-path e =
       let w = walk-done (runAnswer s values given states f words b) e in
-      by-all (λ (a : Walk). a ≡ Walked (w .0) (w .1) → RanPath s values given states f words b) (runClimb s values given states f words (length b)) NoWalk _
+      by-all (λ (a : Walk). a ≡ Walked (w .0) (w .1) → RanPath s values given states f words b)
+      (runClimb s values given states f words (length b)) NoWalk _
       (λ r p q. let z : _≡_ {A = ℕ} 0 1 = cc in absurd (omega arith))
       (λ h p q. took p (run-takes-path s values given states f words b (w .0) (w .1) (w .2)))
       (w .2)
@@ -155,7 +156,8 @@ kept P (Stopped r) f g old work k x = refl
 
 module _ (s values given states : List ℤ) (f : ℤ) (words : List ℤ) (b : List ℕ) where
   -- no run is refused past the ladder
-  runs : (h : Header) → runClimb s values given states f words (length b) ≡ At h → WasRefused (walkAnswer (ranWalkOver s h values given states (num f) words)) → ⊥
+  runs : (h : Header) → runClimb s values given states f words (length b) ≡ At h
+      → WasRefused (walkAnswer (ranWalkOver s h values given states (num f) words)) → ⊥
   runs h e x =
       x (ap (λ (a : Walk). walkAnswer a .refusal) (run-listed (runnable (going s values given states f words b refl e) refl refl) words .answers))
 
@@ -275,7 +277,9 @@ module _ (s values given states : List ℤ) (p o v : ℤ) where
   pub eleven : countAnswer (operateAnswer s values given states p o v) .refusal ≡ pos 11 → NoneApplies s states o v
   unfolding chosen
   eleven e =
-      let k = past (NoCount NoOutcome) (λ r z. let y : NoOutcome ≡ r = cc in rw (← y) (omega arith)) (count-eleven (operateAnswer s values given states p o v) e) in
+      let k =
+      past (NoCount NoOutcome) (λ r z. let y : NoOutcome ≡ r = cc in rw (← y) (omega arith))
+      (count-eleven (operateAnswer s values given states p o v) e) in
       let c = stuck-so s (headerOf s) facts verdicts states (num p) (num o) (wantedOf v) (k .1) in
       record {
         wanted = word-not applies many v (asked-wanted s values given states p o v (k .0)) c;
@@ -285,7 +289,9 @@ module _ (s values given states : List ℤ) (p o v : ℤ) where
   pub sixteen : countAnswer (operateAnswer s values given states p o v) .refusal ≡ pos 16 → (v ≡ negsuc 0) × TwoApply s states (num o)
   unfolding chosen
   sixteen e =
-      let k = past (NoCount ManyOutcomes) (λ r z. let y : ManyOutcomes ≡ r = cc in rw (← y) (omega arith)) (count-sixteen (operateAnswer s values given states p o v) e) in
+      let k =
+      past (NoCount ManyOutcomes) (λ r z. let y : ManyOutcomes ≡ r = cc in rw (← y) (omega arith))
+      (count-sixteen (operateAnswer s values given states p o v) e) in
       let t = word-several applies many v (several-so s (headerOf s) facts verdicts states (num p) (num o) (wantedOf v) (k .1)) in (
         t .0,
         record {

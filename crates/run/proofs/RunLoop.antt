@@ -34,7 +34,8 @@ abbrev pub running : List ℤ → List ℕ → Walker → Running
 running states path w = record { walker = w; path = take (w .length) path; states = states }
 
 -- the run of flow f from states₀ with the buffer b has come to states, path and w, and the rest of it is still to come
-pub record Ongoing (s : List ℤ) (h : Header) (facts verdicts states₀ : List ℤ) (f : ℕ) (words : List ℤ) (b : List ℕ) (states : List ℤ) (path : List ℕ) (w : Walker) : Type 0 where
+pub record Ongoing (s : List ℤ) (h : Header) (facts verdicts states₀ : List ℤ) (f : ℕ) (words : List ℤ) (b : List ℕ)
+    (states : List ℤ) (path : List ℕ) (w : Walker) : Type 0 where
   pub size : length path ≡ length b
   pub held : Held s h f (running states path w)
   pub rest :
@@ -58,9 +59,25 @@ module _ {s : List ℤ} {h : Header} {facts verdicts states₀ : List ℤ} {f : 
   unfolding started begun ran
   run-none words =
       let z : stepsOf s h f - 0 ≡ stepsOf s h f = omega arith in
-      rw (its-flow, q₀) (record { size = refl; held = held-begun u; rest = ap (λ (n : ℕ). runOn s h facts verdicts (wantedAt s h f words) n (begun s h f states₀)) z })
+      rw (its-flow, q₀)
+      (record {
+        size = refl;
+        held = held-begun u;
+        rest = ap (λ (n : ℕ). runOn s h facts verdicts (wantedAt s h f words) n (begun s h f states₀)) z;
+      })
 
-  module _ {words states : List ℤ} {path : List ℕ} {w : Walker} (g₀ : Ongoing s h facts verdicts states₀ (flowOf s h (w₀ .step)) words b states path w) where
+  module _ {words states : List ℤ} {path : List ℕ} {w : Walker}
+      (g₀ : Ongoing s h facts verdicts states₀ (flowOf s h (w₀ .step)) words b states path w) where
+    abbrev wants : ℕ → Wanted
+    wants = wantedAt s h f words
+
+    -- the route of the step that the loop has come to, and the states after it
+    abbrev route : ℕ
+    route = routeTaken s h facts verdicts states (w .step) (wants (w .step))
+
+    abbrev left : List ℤ
+    left = statesThen s h facts verdicts states (w .step) (wants (w .step))
+
     g : Ongoing s h facts verdicts states₀ f words b states path w
     g = subst (λ (k : ℕ). Ongoing s h facts verdicts states₀ k words b states path w) its-flow g₀
 
@@ -77,8 +94,10 @@ module _ {s : List ℤ} {h : Header} {facts verdicts states₀ : List ℤ} {f : 
     unfolding ranWalk ranPath ranStates laid
     run-done y c =
         let t = running states path w in
-        let e : t ≡ ran s h facts verdicts states₀ f (wantedAt s h f words) = sym (run-stops s h facts verdicts (wantedAt s h f words) t (stepsOf s h f - w .length) (not-false (w .finished) y)) ∙ g .rest in
-        let l : laid (take (w .length) path) b ≡ take (w .length) path ++ replicate (length path - w .length) 0 = rw (length-take-le (w .length) path run-short, g .size) in (
+        let e : t ≡ ran s h facts verdicts states₀ f wants =
+        sym (run-stops s h facts verdicts wants t (stepsOf s h f - w .length) (not-false (w .finished) y)) ∙ g .rest in
+        let l : laid (take (w .length) path) b ≡ take (w .length) path ++ replicate (length path - w .length) 0 =
+        rw (length-take-le (w .length) path run-short, g .size) in (
           ap (λ (x : Running). Walked (x .walker .step) (x .walker .length)) e,
           (c ∙ sym l ∙ ap (λ (x : Running). laid (x .path) b) e, ap (λ (x : Running). x .states) e),
         )
@@ -107,41 +126,41 @@ module _ {s : List ℤ} {h : Header} {facts verdicts states₀ : List ℤ} {f : 
       run-word z = omega (arith, its-first, in-flow .0, in-flow .1)
 
       -- where the loop stands after the step
-      next : stepped s h facts verdicts (wantedAt s h f words) (running states path w)
-          ≡ running (statesThen s h facts verdicts states (w .step) (wantedAt s h f words (w .step))) (set path (w .length) (routeTaken s h facts verdicts states (w .step) (wantedAt s h f words (w .step))))
-          (taken s h w (routeTaken s h facts verdicts states (w .step) (wantedAt s h f words (w .step))))
+      next : stepped s h facts verdicts wants (running states path w)
+          ≡ running left (set path (w .length) route)
+          (taken s h w route)
       unfolding stepped taken
-      next = rw (add-one, take-suc-set path (w .length) (routeTaken s h facts verdicts states (w .step) (wantedAt s h f words (w .step))) run-room)
+      next = rw (add-one, take-suc-set path (w .length) route run-room)
 
-      after : Ongoing s h facts verdicts states₀ f words b (statesThen s h facts verdicts states (w .step) (wantedAt s h f words (w .step))) (set path (w .length) (routeTaken s h facts verdicts states (w .step) (wantedAt s h f words (w .step))))
-          (taken s h w (routeTaken s h facts verdicts states (w .step) (wantedAt s h f words (w .step))))
+      after : Ongoing s h facts verdicts states₀ f words b left (set path (w .length) route)
+          (taken s h w route)
       unfolding taken
       after =
           let t = running states path w in
           let n = stepsOf s h f - (w .length + 1) in
           let z : suc n ≡ stepsOf s h f - w .length = omega (arith, held-room u (g .held) on) in
           record {
-            size = length-set path (w .length) (routeTaken s h facts verdicts states (w .step) (wantedAt s h f words (w .step))) ∙ g .size;
-            held = subst (Held s h f) next (held-stepped u (g .held) on (wantedAt s h f words));
+            size = length-set path (w .length) route ∙ g .size;
+            held = subst (Held s h f) next (held-stepped u (g .held) on wants);
             rest =
-                ap (runOn s h facts verdicts (wantedAt s h f words) n) (sym next)
-                ∙ sym (run-steps s h facts verdicts (wantedAt s h f words) t n on)
-                ∙ ap (λ (m : ℕ). runOn s h facts verdicts (wantedAt s h f words) m t) z
+                ap (runOn s h facts verdicts wants n) (sym next)
+                ∙ sym (run-steps s h facts verdicts wants t n on)
+                ∙ ap (λ (m : ℕ). runOn s h facts verdicts wants m t) z
                 ∙ g .rest;
           }
 
       -- the code's word x, route r, states and walker
       module _ {x : Wanted} {r : ℕ} (d : x ≡ wantedOf (getD words (w .step - w₀ .step) (pos 0)))
           (k : r ≡ routeTaken s h facts verdicts states (w .step) x) where
-        is-wanted : x ≡ wantedAt s h f words (w .step)
+        is-wanted : x ≡ wants (w .step)
         unfolding wantedAt
         is-wanted = d ∙ rw its-first
 
-        is-route : r ≡ routeTaken s h facts verdicts states (w .step) (wantedAt s h f words (w .step))
+        is-route : r ≡ route
         is-route = k ∙ ap (routeTaken s h facts verdicts states (w .step)) is-wanted
 
         pub run-route : r < h .routes
-        run-route = rw is-route (omega (arith, route-of run-step run-valid (wantedAt s h f words (w .step)) .high, routes-end run-step))
+        run-route = rw is-route (omega (arith, route-of run-step run-valid (wants (w .step)) .high, routes-end run-step))
 
         module _ {states′ : List ℤ} {w′ : Walker} (m : states′ ≡ statesThen s h facts verdicts states (w .step) x) (q : w′ ≡ taken s h w r) where
           pub run-more : Ongoing s h facts verdicts states₀ (flowOf s h (w₀ .step)) words b states′ (set path (w .length) r) w′
