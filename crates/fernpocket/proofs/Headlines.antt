@@ -24,7 +24,7 @@ use Rattle.text.proofs.RoundTrips.{text-again, words-again, one-text}
 use Rattle.records.specs.Operations.{outcomes}
 use Rattle.operation.specs.Mask.{inMask}
 use Rattle.operation.specs.States.{present}
-use Rattle.operation.specs.Outcomes.{moves}
+use Rattle.operation.specs.Outcomes.{moves, applicable}
 use Rattle.operation.proofs.Movers.{moves-true}
 use Rattle.walks.specs.Paths.{paths, WholeList}
 use Rattle.listing.specs.Lists.{Call, First, nexts, count}
@@ -36,10 +36,11 @@ use Rattle.calls.specs.Reports.{reachableAnswer}
 use Rattle.calls.specs.Lists.{publicCall, publicCalls, ListedNumbers}
 use Rattle.flows.proofs.PublicListing.{public-numbers, public-whole}
 use Rattle.fernpocket.specs.Before.{operateBefore, statesBefore}
-use Rattle.fernpocket.specs.Promised.{Went, WasRefused, FlowReady, readTo13, RanPath, TwoApply, Operated, NoneApplies, Decided, Foreseen}
+use Rattle.fernpocket.specs.Promised.{Went, WasRefused, FlowReady, readTo13, RanPath, TwoApply, OneApplies, Operated, NoneApplies, Decided, Foreseen}
 use Rattle.fernpocket.proofs.AsBefore.{before-unless-16, one-never-16}
 use Rattle.fernpocket.proofs.Covered.{covered, applied-covered, still-reached}
-use Rattle.fernpocket.proofs.InNumbers.{went-is, listable, ready-sheet, ready-flow, read-same, ran-path, operated, eleven, sixteen, two-sixteen, mask-reached}
+use Rattle.fernpocket.proofs.InNumbers.{went-is, listable, ready-sheet, ready-flow, read-same, ran-path, operated, mask-reached}
+use Rattle.fernpocket.proofs.InNumbers.{wanted-goes, only-goes, eleven, sixteen, two-sixteen}
 use Rattle.fernpocket.proofs.InNumbers.{read-kept, write-kept, assemble-kept, verdicts-kept, operate-kept}
 use Rattle.fernpocket.proofs.InNumbers.{run-path-kept, run-states-kept, first-kept, next-kept}
 
@@ -97,7 +98,19 @@ module _ (s values given states : List ℤ) (persona operation wanted : ℤ) whe
   operate-changes j w =
       operated s values given states persona operation wanted j (went-is (operateAnswer s values given states persona operation wanted) w)
 
-  -- 02, CR 1: refused 11, the wanted outcome is not applicable, or with −1 none is.
+  -- 02, CR 1. Of the calls that get as far as the states: a wanted outcome that is applicable is taken;
+  pub wanted-taken : Decided (countAnswer (operateAnswer s values given states persona operation wanted))
+      → (k : ℕ) → wanted ≡ pos k → applicable s (headerOf s) states (num operation) k ≡ true
+      → Went (countAnswer (operateAnswer s values given states persona operation wanted)) k
+  wanted-taken = wanted-goes s values given states persona operation wanted
+
+  -- with −1, the only one that is applicable is.
+  pub only-taken : Decided (countAnswer (operateAnswer s values given states persona operation wanted))
+      → wanted ≡ negsuc 0 → (j : ℕ) → OneApplies s states (num operation) j
+      → Went (countAnswer (operateAnswer s values given states persona operation wanted)) j
+  only-taken = only-goes s values given states persona operation wanted
+
+  -- Refused 11, the wanted outcome is not applicable, or with −1 none is.
   pub eleven-none : countAnswer (operateAnswer s values given states persona operation wanted) .refusal ≡ pos 11
       → NoneApplies s states operation wanted
   eleven-none = eleven s values given states persona operation wanted

@@ -12,7 +12,7 @@ use native.Mathlib.Decide.{decLt}
 use borrow.Author.Tests.{ltb-true}
 use Rattle.tables.proofs.Bools.{true-false}
 use Rattle.signed.specs.Words.{num, eqZ}
-use Rattle.signed.proofs.Numbers.{num-pos}
+use Rattle.signed.proofs.Numbers.{num-of, num-pos}
 use Rattle.answer.specs.declared.Refusal.{Refusal}
 use Rattle.answer.specs.declared.Refusal.the-variants.{NoOutcome, LastPath, ManyOutcomes}
 use Rattle.answer.specs.declared.Status.{Status}
@@ -64,7 +64,7 @@ use Rattle.flows.proofs.PublicListing.{public-listing, run-takes-path}
 use Rattle.text.specs.Lines.{wordsOf, textOf}
 use Rattle.text.specs.Calls.{readAnswer, readBuffer, writeAnswer, writeBuffer, filled}
 use Rattle.reports.proofs.ReportLaws.{asked, reachable-is}
-use Rattle.fernpocket.specs.Promised.{Went, WasRefused, FlowReady, readTo13, RanPath, After, moved, stayed, TwoApply, Operated, NoneApplies, Decided}
+use Rattle.fernpocket.specs.Promised.{Went, WasRefused, FlowReady, readTo13, RanPath, After, moved, stayed, TwoApply, OneApplies, Operated, NoneApplies, Decided}
 use Rattle.fernpocket.proofs.Covered.{under-header, Made, made, made-after, attempt-ready}
 
 -- ---- answers
@@ -304,6 +304,47 @@ module _ (s values given states : List ℤ) (p o v : ℤ) where
         },
       )
 
+  -- what is decided is an outcome, or 11, or 16
+  value : (a : Count) → countAnswer a .refusal ≡ pos 0 → (n : ℕ) × (a ≡ Is n)
+  value (Is n) z = (n, refl)
+  value (NoCount r) z = absurd (number-some r z)
+
+  went-with : (j : ℕ) → operateAnswer s values given states p o v ≡ Is j → Went (countAnswer (operateAnswer s values given states p o v)) j
+  went-with j q = rw q (record { refusal = refl; value = refl })
+
+  -- a wanted outcome that is applicable
+  pub wanted-goes : Decided (countAnswer (operateAnswer s values given states p o v)) → (k : ℕ) → v ≡ pos k → applies k ≡ true
+      → Went (countAnswer (operateAnswer s values given states p o v)) k
+  wanted-goes d k e t = go d
+    where
+      wanted : v ≡ negsuc 0 → ⊥
+      wanted z = let y : _≡_ {A = ℕ} 0 1 = cc (sym e ∙ z) in omega arith
+
+      go : Decided (countAnswer (operateAnswer s values given states p o v)) → Went (countAnswer (operateAnswer s values given states p o v)) k
+      go (inl q) =
+          let w = value (operateAnswer s values given states p o v) q in
+          let y : k ≡ w .0 = cc (sym e ∙ operated (w .0) (w .1) .wanted wanted) in
+          went-with k (w .1 ∙ ap Is (sym y))
+      go (inr (inl q)) = absurd (true-false t (rw (e, num-of k) at (eleven q .wanted wanted)))
+      go (inr (inr q)) = absurd (wanted (sixteen q .0))
+
+  -- with −1, the only one that is
+  pub only-goes : Decided (countAnswer (operateAnswer s values given states p o v)) → v ≡ negsuc 0 → (j : ℕ) → OneApplies s states (num o) j
+      → Went (countAnswer (operateAnswer s values given states p o v)) j
+  only-goes d e j r = go d
+    where
+      go : Decided (countAnswer (operateAnswer s values given states p o v)) → Went (countAnswer (operateAnswer s values given states p o v)) j
+      go (inl q) =
+          let w = value (operateAnswer s values given states p o v) q in
+          let y : w .0 ≡ j = r .alone (w .0) (operated (w .0) (w .1) .exists) (operated (w .0) (w .1) .applies) in
+          went-with j (w .1 ∙ ap Is y)
+      go (inr (inl q)) = absurd (true-false (r .applies) (eleven q .none e j (r .exists)))
+      go (inr (inr q)) =
+          let t = sixteen q .1 in
+          let a = r .alone (t .one) (omega (arith, t .order, t .exists)) (t .one-applies) in
+          let b = r .alone (t .other) (t .exists) (t .other-applies) in
+          absurd (omega (arith, t .order))
+
   -- with −1 and two applicable outcomes, what is decided is 16
   pub two-sixteen : Decided (countAnswer (operateAnswer s values given states p o v)) → v ≡ negsuc 0 → TwoApply s states (num o)
       → countAnswer (operateAnswer s values given states p o v) .refusal ≡ pos 16
@@ -315,10 +356,6 @@ module _ (s values given states : List ℤ) (p o v : ℤ) where
       let a = r .alone x (t .one) (omega (arith, t .order, t .exists)) (t .one-applies) in
       let b = r .alone x (t .other) (t .exists) (t .other-applies) in
       absurd (omega (arith, t .order))
-    where
-      value : (a : Count) → countAnswer a .refusal ≡ pos 0 → (n : ℕ) × (a ≡ Is n)
-      value (Is n) z = (n, refl)
-      value (NoCount r) z = absurd (number-some r z)
 
 -- ---- S2
 

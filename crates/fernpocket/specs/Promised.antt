@@ -88,6 +88,12 @@ pub record TwoApply (s states : List ℤ) (o : ℕ) : Type 0 where
   pub one-applies : applicable s (headerOf s) states o one ≡ true
   pub other-applies : applicable s (headerOf s) states o other ≡ true
 
+-- outcome j of operation o is applicable, and no other is
+pub record OneApplies (s states : List ℤ) (o j : ℕ) : Type 0 where
+  pub exists : j < outcomes s (headerOf s) o
+  pub applies : applicable s (headerOf s) states o j ≡ true
+  pub alone : (i : ℕ) → i < outcomes s (headerOf s) o → applicable s (headerOf s) states o i ≡ true → i ≡ j
+
 -- an operation went through with outcome j: the mask has the persona, the precondition is true, j is applicable; it is the wanted outcome,
 -- or with −1 the only one that is applicable; and exactly its effects that start from the present states are applied
 pub record Operated (s values given states : List ℤ) (p o w : ℤ) (j : ℕ) : Type 0 where
