@@ -90,14 +90,16 @@ pub walk-done : (a : Walk) → walkAnswer a .refusal ≡ pos 0 → (t : ℕ) × 
 walk-done (Walked t n) e = (t, n, refl)
 walk-done (NoWalk r) e = absurd (number-some r e)
 
--- ---- refusals by their numbers
+-- ---- refusals without a place, by their numbers
+
+count-refused : (a : Count) (q : Refusal) → ((k : ℕ) → refusalOf (number q) k ≡ q) → countAnswer a .refusal ≡ pos (number q) → a ≡ NoCount q
+count-refused (Is n) q p e = absurd (omega (arith, number-range q .0, ap natAbs e))
+count-refused (NoCount r) q p e = ap NoCount (sym (of-own r) ∙ ap (λ (n : ℕ). refusalOf n (place r)) (ap natAbs e) ∙ p (place r))
 
 pub count-eleven : (a : Count) → countAnswer a .refusal ≡ pos 11 → a ≡ NoCount NoOutcome
 unfolding refusalOf
-count-eleven (Is n) e = absurd (omega (arith, ap natAbs e))
-count-eleven (NoCount r) e = ap NoCount (sym (of-own r) ∙ ap (λ (n : ℕ). refusalOf n (place r)) (ap natAbs e))
+count-eleven a e = count-refused a NoOutcome (λ k. refl) e
 
 pub count-sixteen : (a : Count) → countAnswer a .refusal ≡ pos 16 → a ≡ NoCount ManyOutcomes
 unfolding refusalOf
-count-sixteen (Is n) e = absurd (omega (arith, ap natAbs e))
-count-sixteen (NoCount r) e = ap NoCount (sym (of-own r) ∙ ap (λ (n : ℕ). refusalOf n (place r)) (ap natAbs e))
+count-sixteen a e = count-refused a ManyOutcomes (λ k. refl) e

@@ -4,7 +4,7 @@ use mathlib.Core.Path.{_≡_, refl, sym, ap, subst, _∙_}
 use mathlib.Core.Bool.{Bool, true, false, not, _&&_}
 use mathlib.Core.List.{List}
 use mathlib.Core.Logic.{_⊎_, inl, inr}
-use Prim.Native.Nat.{ℕ, _<_}
+use Prim.Native.Nat.{ℕ, _<_, _^_}
 use lib.IntN.{ℤ}
 use native.Mathlib.Omega.{arith}
 use borrow.Author.Tests.{not-true, not-false}
@@ -27,7 +27,7 @@ use Rattle.operation.specs.Inner.{StatesIn, performed}
 use Rattle.operation.specs.Outcomes.{chosen}
 use Rattle.operation.specs.Changes.{applied}
 use Rattle.operation.proofs.Guarantees.{chosen-exists, performed-by, performed-none, performed-several, applied-in}
-use Rattle.attempt.specs.Attempts.{precondition, attemptAnswer, attempted, statesAfter, attemptedStates}
+use Rattle.attempt.specs.Attempts.{precondition, choiceAnswer, attemptAnswer, attempted, statesAfter, attemptedStates}
 use Rattle.attempt.specs.Inner.{Attemptable, attemptedIf, attemptedStatesIf}
 
 -- ---- by t, whether the precondition is true
@@ -53,70 +53,50 @@ module _ (s : List ℤ) (h : Header) (t : Bool) (states : List ℤ) (p o : ℕ) 
   unfolding attemptedIf attemptAnswer
   if-went a e j c = rw (a, e, c)
 
--- how an attempt comes out
-pub data Comes (s : List ℤ) (h : Header) (facts verdicts states : List ℤ) (p o : ℕ) (v : Wanted) : Count → Type 0 where
-  barred : allowed s h o p ≡ false → Comes s h facts verdicts states p o v (Refused Persona)
-  untrue :
-      allowed s h o p ≡ true → truth s h facts verdicts (precondition s h o) ≡ false → Comes s h facts verdicts states p o v (Refused Precondition)
-  stuck :
-      allowed s h o p ≡ true → truth s h facts verdicts (precondition s h o) ≡ true → chosen s h states o v ≡ Nothing
-      → Comes s h facts verdicts states p o v (Refused NoOutcome)
-  several :
-      allowed s h o p ≡ true → truth s h facts verdicts (precondition s h o) ≡ true → chosen s h states o v ≡ Several
-      → Comes s h facts verdicts states p o v (Refused ManyOutcomes)
-  went :
-      allowed s h o p ≡ true → truth s h facts verdicts (precondition s h o) ≡ true → (j : ℕ) → chosen s h states o v ≡ Outcome j
-      → Comes s h facts verdicts states p o v (Is j)
-
-module _ {s : List ℤ} {h : Header} {facts verdicts states : List ℤ} {p o : ℕ} {v : Wanted} where
-  -- that is the answer
-  pub answer-is : (r : Count) → Comes s h facts verdicts states p o v r → attempted s h facts verdicts states p o v ≡ r
-  unfolding attempted attemptedIf
-  answer-is r (barred a) = if-barred s h (truth s h facts verdicts (precondition s h o)) states p o v a
-  answer-is r (untrue a t) = if-untrue s h (truth s h facts verdicts (precondition s h o)) states p o v a t
-  answer-is r (stuck a t e) = if-stuck s h (truth s h facts verdicts (precondition s h o)) states p o v a t e
-  answer-is r (several a t e) = if-several s h (truth s h facts verdicts (precondition s h o)) states p o v a t e
-  answer-is r (went a t j e) = if-went s h (truth s h facts verdicts (precondition s h o)) states p o v a t j e
-
-  -- and one of the five is the case
-  pub comes : Comes s h facts verdicts states p o v (attempted s h facts verdicts states p o v)
-  comes = go (bool-cases (allowed s h o p)) (bool-cases (truth s h facts verdicts (precondition s h o))) (chosen s h states o v) refl
-    where
-      so : (r : Count) → Comes s h facts verdicts states p o v r → Comes s h facts verdicts states p o v (attempted s h facts verdicts states p o v)
-      so r k = subst (Comes s h facts verdicts states p o v) (sym (answer-is r k)) k
-
-      go : (allowed s h o p ≡ true) ⊎ (allowed s h o p ≡ false)
-          → (truth s h facts verdicts (precondition s h o) ≡ true) ⊎ (truth s h facts verdicts (precondition s h o) ≡ false)
-          → (x : Choice) → chosen s h states o v ≡ x → Comes s h facts verdicts states p o v (attempted s h facts verdicts states p o v)
-      go (inr a) t x e = so (Refused Persona) (barred a)
-      go (inl a) (inr t) x e = so (Refused Precondition) (untrue a t)
-      go (inl a) (inl t) Nothing e = so (Refused NoOutcome) (stuck a t e)
-      go (inl a) (inl t) Several e = so (Refused ManyOutcomes) (several a t e)
-      go (inl a) (inl t) (Outcome j) e = so (Is j) (went a t j e)
-
 -- ---- what is chosen, and the states afterwards
 
-module _ (s : List ℤ) (h : Header) (facts verdicts states : List ℤ) (p o : ℕ) (v : Wanted) where
-  -- 11: nothing is chosen. 16: several are applicable
-  pub stuck-so : attempted s h facts verdicts states p o v ≡ Refused NoOutcome → chosen s h states o v ≡ Nothing
-  stuck-so q = go (attempted s h facts verdicts states p o v) comes q
-    where
-      go : (r : Count) → Comes s h facts verdicts states p o v r → r ≡ Refused NoOutcome → chosen s h states o v ≡ Nothing
-      go r (barred a) z = let y : _≡_ {A = ℕ} 0 1 = cc in absurd (omega arith)
-      go r (untrue a t) z = let y : _≡_ {A = ℕ} 0 1 = cc in absurd (omega arith)
-      go r (stuck a t e) z = e
-      go r (several a t e) z = let y : _≡_ {A = ℕ} 0 1 = cc in absurd (omega arith)
-      go r (went a t i e) z = let y : _≡_ {A = ℕ} 0 1 = cc in absurd (omega arith)
+-- the persona is allowed, the precondition is true, and the choice is c
+pub record Chose (s : List ℤ) (h : Header) (facts verdicts states : List ℤ) (p o : ℕ) (v : Wanted) (c : Choice) : Type 0 where
+  pub allowed : allowed s h o p ≡ true
+  pub truth : truth s h facts verdicts (precondition s h o) ≡ true
+  pub chosen : chosen s h states o v ≡ c
 
-  pub several-so : attempted s h facts verdicts states p o v ≡ Refused ManyOutcomes → chosen s h states o v ≡ Several
-  several-so q = go (attempted s h facts verdicts states p o v) comes q
-    where
-      go : (r : Count) → Comes s h facts verdicts states p o v r → r ≡ Refused ManyOutcomes → chosen s h states o v ≡ Several
-      go r (barred a) z = let y : _≡_ {A = ℕ} 0 1 = cc in absurd (omega arith)
-      go r (untrue a t) z = let y : _≡_ {A = ℕ} 0 1 = cc in absurd (omega arith)
-      go r (stuck a t e) z = let y : _≡_ {A = ℕ} 0 1 = cc in absurd (omega arith)
-      go r (several a t e) z = e
-      go r (went a t i e) z = let y : _≡_ {A = ℕ} 0 1 = cc in absurd (omega arith)
+no : {A : Type 0} → _≡_ {A = ℕ} 0 1 → A
+no e = absurd (omega arith)
+
+past : (a t : Bool) (x c : Choice) → attemptAnswer a t x ≡ choiceAnswer c → (a ≡ true) × (t ≡ true) × (x ≡ c)
+unfolding attemptAnswer
+past true true (Outcome i) (Outcome j) e = let z : i ≡ j = cc in (refl, refl, ap Outcome z)
+past true true Nothing Nothing e = (refl, refl, refl)
+past true true Several Several e = (refl, refl, refl)
+past true true (Outcome i) Nothing e = no cc
+past true true (Outcome i) Several e = no cc
+past true true Nothing (Outcome j) e = no cc
+past true true Nothing Several e = no cc
+past true true Several (Outcome j) e = no cc
+past true true Several Nothing e = no cc
+past true false x (Outcome j) e = no cc
+past true false x Nothing e = no cc
+past true false x Several e = no cc
+past false t x (Outcome j) e = no cc
+past false t x Nothing e = no cc
+past false t x Several e = no cc
+
+answer-small : (a t : Bool) (x : Choice) → ((j : ℕ) → x ≡ Outcome j → j < 2 ^ 63) → SmallCount (attemptAnswer a t x)
+unfolding attemptAnswer
+answer-small true true (Outcome j) k = k j refl
+answer-small true true Nothing k = omega arith
+answer-small true true Several k = omega arith
+answer-small true false x k = omega arith
+answer-small false t x k = omega arith
+
+module _ (s : List ℤ) (h : Header) (facts verdicts states : List ℤ) (p o : ℕ) (v : Wanted) where
+  -- an answer of a choice: the attempt came as far as that choice
+  pub chose-so : (c : Choice) → attempted s h facts verdicts states p o v ≡ choiceAnswer c → Chose s h facts verdicts states p o v c
+  unfolding attempted
+  chose-so c q =
+      let k = past (allowed s h o p) (truth s h facts verdicts (precondition s h o)) (chosen s h states o v) c q in
+      record { allowed = k .0; truth = k .1; chosen = k .2 }
 
   pub outcome-states : (j : ℕ) → attempted s h facts verdicts states p o v ≡ Is j
       → attemptedStates s h facts verdicts states p o v ≡ applied s h states o j
@@ -145,25 +125,14 @@ module _ {s : List ℤ} {h : Header} {facts verdicts states : List ℤ} {p o : �
 module _ {s : List ℤ} {h : Header} {facts verdicts states : List ℤ} {p o : ℕ} (w : Attemptable s h facts verdicts states p o) (v : Wanted) where
   -- an outcome that is answered is one of the operation's
   pub outcome-below : (j : ℕ) → attempted s h facts verdicts states p o v ≡ Is j → j < operation s h o .w4
-  outcome-below j q = go (attempted s h facts verdicts states p o v) comes q
-    where
-      go : (r : Count) → Comes s h facts verdicts states p o v r → r ≡ Is j → j < operation s h o .w4
-      go r (barred a) z = let y : _≡_ {A = ℕ} 0 1 = cc in absurd (omega arith)
-      go r (untrue a t) z = let y : _≡_ {A = ℕ} 0 1 = cc in absurd (omega arith)
-      go r (stuck a t e) z = let y : _≡_ {A = ℕ} 0 1 = cc in absurd (omega arith)
-      go r (several a t e) z = let y : _≡_ {A = ℕ} 0 1 = cc in absurd (omega arith)
-      go r (went a t i e) z = let y : i ≡ j = cc in rw (← y) (chosen-exists s h states o v i e)
+  outcome-below j q = chosen-exists s h states o v j (chose-so s h facts verdicts states p o v (Outcome j) q .chosen)
 
   -- so it fits a signed word
   pub attempt-small : SmallCount (attempted s h facts verdicts states p o v)
-  attempt-small = go (attempted s h facts verdicts states p o v) comes
-    where
-      go : (r : Count) → Comes s h facts verdicts states p o v r → SmallCount r
-      go r (barred a) = omega arith
-      go r (untrue a t) = omega arith
-      go r (stuck a t e) = omega arith
-      go r (several a t e) = omega arith
-      go r (went a t j e) = omega (arith, chosen-exists s h states o v j e, operation-ok (w .ready .accepted) o (w .ready .exists) .outcomes-few)
+  unfolding attempted
+  attempt-small =
+      answer-small (allowed s h o p) (truth s h facts verdicts (precondition s h o)) (chosen s h states o v)
+      (λ j e. omega (arith, chosen-exists s h states o v j e, operation-ok (w .ready .accepted) o (w .ready .exists) .outcomes-few))
 
   -- the states afterwards are among their entities' states again
   pub attempted-in : StatesIn s h (attemptedStates s h facts verdicts states p o v)

@@ -20,18 +20,17 @@ use Rattle.operation.specs.Changes.{applied}
 abbrev pub precondition : List ℤ → Header → ℕ → ℕ
 precondition s h o = preconditionOf (operation s h o)
 
--- 9: the persona is not in the mask. 10: the precondition is false. 11: no outcome is applicable, or the wanted one is not. 16, "directly
--- after 11": none is wanted and several are applicable. Else the outcome that is chosen
+-- what a choice answers. 11: no outcome is applicable, or the wanted one is not. 16, "directly after 11": none is wanted and several are
+-- applicable
+abbrev pub choiceAnswer : Choice → Count
+choiceAnswer (Outcome j) = Is j
+choiceAnswer Nothing = Refused NoOutcome
+choiceAnswer Several = Refused ManyOutcomes
+
+-- 9: the persona is not in the mask. 10: the precondition is false. Else what the choice answers
 unfoldable pub attemptAnswer : Bool → Bool → Choice → Count
 attemptAnswer allowed holds choice =
-    elim allowed [
-      | false ↦ Refused Persona
-      | true ↦
-          elim holds [
-            | false ↦ Refused Precondition
-            | true ↦ elim choice [ Outcome j ↦ Is j | Nothing ↦ Refused NoOutcome | Several ↦ Refused ManyOutcomes ]
-          ]
-    ]
+    elim allowed [ false ↦ Refused Persona | true ↦ elim holds [ false ↦ Refused Precondition | true ↦ choiceAnswer choice ] ]
 
 unfoldable pub attempted : List ℤ → Header → List ℤ → List ℤ → List ℤ → ℕ → ℕ → Wanted → Count
 attempted s h facts verdicts states p o w =

@@ -31,35 +31,22 @@ use Rattle.reach.specs.Reached.{Reached}
 use Rattle.reach.proofs.Steps.{reached-after}
 use Rattle.attempt.specs.Attempts.{precondition, attempted, attemptedStates}
 use Rattle.attempt.specs.Inner.{Attemptable}
-use Rattle.attempt.proofs.AttemptLaws.{Comes, barred, untrue, stuck, several, went, comes, outcome-states, refused-states}
+use Rattle.attempt.proofs.AttemptLaws.{Chose, chose-so, outcome-states, refused-states}
 use Rattle.causes.specs.Causes.{canBeTrue, admissible, causes, canCause}
 use Rattle.causes.proofs.Effects.{some-of}
 
--- an attempt that is not refused: the persona is allowed, the precondition is true, and outcome j is chosen
-pub record Went (s : List ℤ) (h : Header) (facts verdicts states : List ℤ) (p o : ℕ) (d : Wanted) (j : ℕ) : Type 0 where
-  pub allowed : allowed s h o p ≡ true
-  pub truth : truth s h facts verdicts (precondition s h o) ≡ true
-  pub chosen : chosen s h states o d ≡ Outcome j
-
-module _ {s : List ℤ} {h : Header} {facts verdicts states : List ℤ} {p o : ℕ} (d : Wanted) where
-  pub went-so : (j : ℕ) → attempted s h facts verdicts states p o d ≡ Is j → Went s h facts verdicts states p o d j
-  went-so j q = go (attempted s h facts verdicts states p o d) comes q
-    where
-      go : (r : Count) → Comes s h facts verdicts states p o d r → r ≡ Is j → Went s h facts verdicts states p o d j
-      go r (barred a) z = let y : _≡_ {A = ℕ} 0 1 = cc in absurd (omega arith)
-      go r (untrue a t) z = let y : _≡_ {A = ℕ} 0 1 = cc in absurd (omega arith)
-      go r (stuck a t e) z = let y : _≡_ {A = ℕ} 0 1 = cc in absurd (omega arith)
-      go r (several a t e) z = let y : _≡_ {A = ℕ} 0 1 = cc in absurd (omega arith)
-      go r (went a t i e) z = let y : i ≡ j = cc in record { allowed = a; truth = t; chosen = rw (← y) e }
-
 module _ {s : List ℤ} {h : Header} {facts verdicts states : List ℤ} {p o : ℕ} (w : Attemptable s h facts verdicts states p o) (d : Wanted) where
+  -- what an attempt that is not refused chose
+  went : (j : ℕ) → attempted s h facts verdicts states p o d ≡ Is j → Chose s h facts verdicts states p o d (Outcome j)
+  went j q = chose-so s h facts verdicts states p o d (Outcome j) q
+
   module _ (j : ℕ) (q : attempted s h facts verdicts states p o d ≡ Is j) where
     -- its precondition's range includes 1
     pub could-be-true : canBeTrue s h o ≡ true
     unfolding canBeTrue
     could-be-true =
         true-in _ _ _ (true-in-range s h facts verdicts (w .ready .accepted) (w .known) (w .judged) (operation s h o .w1)
-        (operation-ok (w .ready .accepted) o (w .ready .exists) .node) (went-so d j q .truth))
+        (operation-ok (w .ready .accepted) o (w .ready .exists) .node) (went j q .truth))
 
     -- each effect that was applied is one that S3a and S4 say the persona can cause
     module _ (n e : ℕ) (m : Moves s h states o j n e) where
@@ -71,7 +58,7 @@ module _ {s : List ℤ} {h : Header} {facts verdicts states : List ℤ} {p o : �
       unfolding admissible
       applied-admissible =
           let f = some-of s h o (leaves n (effect s h e .w1)) (w .ready .accepted) (w .ready .exists) e (record { of = m .of; passes = starts }) in
-          rw (went-so d j q .allowed, f, could-be-true)
+          rw (went j q .allowed, f, could-be-true)
 
       pub applied-caused : canCause s h p n (effect s h e .w1) (effect s h e .w2) ≡ true
       unfolding canCause causes leads
@@ -89,7 +76,7 @@ module _ {s : List ℤ} {h : Header} {facts verdicts states : List ℤ} {p o : �
       go : (r : Count) → attempted s h facts verdicts states p o d ≡ r → (admissible s h n a p o ≡ true) × (canCause s h p n a b ≡ true)
       go (Refused r) q = absurd (x (sym ea ∙ sym (ap (λ (t : List ℤ). present t n) (refused-states s h facts verdicts states p o d r q)) ∙ eb))
       go (Is j) q =
-          let same = outcome-states s h facts verdicts states p o d j q ∙ sym (performed-by s h states o d j (went-so d j q .chosen)) in
+          let same = outcome-states s h facts verdicts states p o d j q ∙ sym (performed-by s h states o d j (went j q .chosen)) in
           let c = changes (w .ready) d n l (λ z. x (sym ea ∙ sym (ap num z) ∙ ap (λ (t : List ℤ). present t n) (sym same) ∙ eb)) in
           along (c .0) (c .1) (c .2) q same
         where
@@ -97,10 +84,11 @@ module _ {s : List ℤ} {h : Header} {facts verdicts states : List ℤ} {p o : �
               → attemptedStates s h facts verdicts states p o d ≡ performed s h states o d
               → (admissible s h n a p o ≡ true) × (canCause s h p n a b ≡ true)
           along i e k q same =
-              let z : i ≡ j = cc (sym (k .chosen) ∙ went-so d j q .chosen) in
+              let z : i ≡ j = cc (sym (k .chosen) ∙ went j q .chosen) in
               let m : Moves s h states o j n e = subst (λ (t : ℕ). Moves s h states o t n e) z (k .moves) in
               let from : effect s h e .w1 ≡ a = m .from ∙ ea in
-              let to : effect s h e .w2 ≡ b = sym (num-of (effect s h e .w2)) ∙ sym (ap num (k .new)) ∙ ap (λ (t : List ℤ). present t n) (sym same) ∙ eb in
+              let to : effect s h e .w2 ≡ b =
+              sym (num-of (effect s h e .w2)) ∙ sym (ap num (k .new)) ∙ ap (λ (t : List ℤ). present t n) (sym same) ∙ eb in
               (rw (← from) (applied-admissible j q n e m), rw (← from, ← to) (applied-caused j q n e m))
 
   -- and a state that is reached stays so
@@ -111,5 +99,5 @@ module _ {s : List ℤ} {h : Header} {facts verdicts states : List ℤ} {p o : �
       go : (r : Count) → attempted s h facts verdicts states p o d ≡ r → Reached s h n (present (attemptedStates s h facts verdicts states p o d) n)
       go (Refused r) q = rw (refused-states s h facts verdicts states p o d r q) v
       go (Is j) q =
-          rw (outcome-states s h facts verdicts states p o d j q, ← performed-by s h states o d j (went-so d j q .chosen))
+          rw (outcome-states s h facts verdicts states p o d j q, ← performed-by s h states o d j (went j q .chosen))
           (reached-after (w .ready) d n l v)

@@ -31,13 +31,14 @@ use Rattle.records.proofs.Acceptance.{accepted}
 use Rattle.records.specs.Operations.{outcomes}
 use Rattle.records.proofs.OperationLaws.{operation-ok}
 use Rattle.operation.specs.Mask.{inMask}
+use Rattle.operation.specs.declared.Choice.the-variants.{Outcome, Nothing, Several}
 use Rattle.operation.specs.Outcomes.{wantedOf, applicable, chosen}
 use Rattle.operation.proofs.Movers.{moves-true, true-moves}
 use Rattle.operation.proofs.Guarantees.{Fate, moved as Goes, unmoved as Stays, fate}
 use Rattle.operation.proofs.Choices.{chosen-applies, word-wanted, word-alone, word-none, word-not, word-several}
 use Rattle.facts.specs.Assembled.{assembled}
 use Rattle.predicate.specs.Verdicts.{verdictsOf}
-use Rattle.attempt.proofs.AttemptLaws.{stuck-so, several-so, outcome-states, refused-states}
+use Rattle.attempt.proofs.AttemptLaws.{chose-so, outcome-states, refused-states}
 use Rattle.walks.specs.Paths.{PathOf, paths, Among}
 use Rattle.walks.specs.Follows.{Following, Absent, Final, Then, following}
 use Rattle.listing.specs.Calls.{firstWalk, nextWalk, nextLaid, answerOf, bufferOf}
@@ -50,7 +51,6 @@ use Rattle.ladder.specs.declared.Climbed.{Climbed}
 use Rattle.ladder.specs.declared.Climbed.the-variants.{At, Stopped}
 use Rattle.ladder.specs.Ladder.{opened, by, left, exists}
 use Rattle.ladder.proofs.ClimbLaws.{worked, by-all, climbed-at, opened-at, opened-done}
-use Rattle.causes.proofs.Caused.{went-so}
 use Rattle.evaluate.proofs.EvaluateLaws.{operate-early, asked-wanted}
 use Rattle.calls.specs.Evaluation.{assembleClimb, assembleAnswer, assembleValues, verdictsClimb, verdictsAnswer, verdictsVerdicts}
 use Rattle.calls.specs.Evaluation.{operateClimb, attemptedOver, attemptedStatesOver, operateAnswer, operateStates}
@@ -259,7 +259,7 @@ module _ (s values given states : List ℤ) (p o v : ℤ) where
   operated j q =
       let k = past (Is j) (λ r e. let z : _≡_ {A = ℕ} 0 1 = cc in absurd (omega arith)) q in
       let ready = attempt-ready s values given states p o v (k .0) in
-      let w = went-so (wantedOf v) j (k .1) in
+      let w = chose-so s (headerOf s) facts verdicts states (num p) (num o) (wantedOf v) (Outcome j) (k .1) in
       let c = chosen-applies applies many (wantedOf v) j (w .chosen) in
       let few : j < 2 ^ 63 = omega (arith, c .0, operation-ok (ready .ready .accepted) (num o) (ready .ready .exists) .outcomes-few) in
       let changed = made-after s values given states p o v (k .0)
@@ -280,7 +280,7 @@ module _ (s values given states : List ℤ) (p o v : ℤ) where
       let k =
       past (NoCount NoOutcome) (λ r z. let y : NoOutcome ≡ r = cc in rw (← y) (omega arith))
       (count-eleven (operateAnswer s values given states p o v) e) in
-      let c = stuck-so s (headerOf s) facts verdicts states (num p) (num o) (wantedOf v) (k .1) in
+      let c = chose-so s (headerOf s) facts verdicts states (num p) (num o) (wantedOf v) Nothing (k .1) .chosen in
       record {
         wanted = word-not applies many v (asked-wanted s values given states p o v (k .0)) c;
         none = word-none applies many v c;
@@ -292,7 +292,7 @@ module _ (s values given states : List ℤ) (p o v : ℤ) where
       let k =
       past (NoCount ManyOutcomes) (λ r z. let y : ManyOutcomes ≡ r = cc in rw (← y) (omega arith))
       (count-sixteen (operateAnswer s values given states p o v) e) in
-      let t = word-several applies many v (several-so s (headerOf s) facts verdicts states (num p) (num o) (wantedOf v) (k .1)) in (
+      let t = word-several applies many v (chose-so s (headerOf s) facts verdicts states (num p) (num o) (wantedOf v) Several (k .1) .chosen) in (
         t .0,
         record {
           one = t .1 .first;
@@ -311,6 +311,13 @@ module _ (s values given states : List ℤ) (p o v : ℤ) where
 
   went-with : (j : ℕ) → operateAnswer s values given states p o v ≡ Is j → Went (countAnswer (operateAnswer s values given states p o v)) j
   went-with j q = rw q (record { refusal = refl; value = refl })
+
+  -- of two applicable outcomes none is the only one
+  two-alone : TwoApply s states (num o) → (j : ℕ) → ((i : ℕ) → i < many → applies i ≡ true → i ≡ j) → ⊥
+  two-alone t j alone =
+      let a = alone (t .one) (omega (arith, t .order, t .exists)) (t .one-applies) in
+      let b = alone (t .other) (t .exists) (t .other-applies) in
+      omega (arith, t .order)
 
   -- a wanted outcome that is applicable
   pub wanted-goes : Decided (countAnswer (operateAnswer s values given states p o v)) → (k : ℕ) → v ≡ pos k → applies k ≡ true
@@ -339,11 +346,7 @@ module _ (s values given states : List ℤ) (p o v : ℤ) where
           let y : w .0 ≡ j = r .alone (w .0) (operated (w .0) (w .1) .exists) (operated (w .0) (w .1) .applies) in
           went-with j (w .1 ∙ ap Is y)
       go (inr (inl q)) = absurd (true-false (r .applies) (eleven q .none e j (r .exists)))
-      go (inr (inr q)) =
-          let t = sixteen q .1 in
-          let a = r .alone (t .one) (omega (arith, t .order, t .exists)) (t .one-applies) in
-          let b = r .alone (t .other) (t .exists) (t .other-applies) in
-          absurd (omega (arith, t .order))
+      go (inr (inr q)) = absurd (two-alone (sixteen q .1) j (r .alone))
 
   -- with −1 and two applicable outcomes, what is decided is 16
   pub two-sixteen : Decided (countAnswer (operateAnswer s values given states p o v)) → v ≡ negsuc 0 → TwoApply s states (num o)
@@ -352,10 +355,7 @@ module _ (s values given states : List ℤ) (p o v : ℤ) where
   two-sixteen (inr (inl e)) x t = absurd (true-false (t .other-applies) (eleven e .none x (t .other) (t .exists)))
   two-sixteen (inl e) x t =
       let k = value (operateAnswer s values given states p o v) e in
-      let r = operated (k .0) (k .1) in
-      let a = r .alone x (t .one) (omega (arith, t .order, t .exists)) (t .one-applies) in
-      let b = r .alone x (t .other) (t .exists) (t .other-applies) in
-      absurd (omega (arith, t .order))
+      absurd (two-alone t (k .0) (operated (k .0) (k .1) .alone x))
 
 -- ---- S2
 

@@ -1,6 +1,6 @@
 -- 02, CR 1: what is chosen among n outcomes of which some are applicable.
 -- Assumes nothing.
-use mathlib.Core.Path.{_≡_, refl, sym, _∙_, ap}
+use mathlib.Core.Path.{_≡_, refl, sym, ap, subst, _∙_}
 use mathlib.Core.Bool.{Bool, true, false, cond, _&&_}
 use mathlib.Core.Logic.{_⊎_, inl, inr, ⊎-elim}
 use Prim.Native.Nat.{ℕ, zero, suc, _+_, _<_}
@@ -68,6 +68,34 @@ module _ (f : ℕ → Bool) where
   tally zero = none (λ i l. absurd (omega arith))
   tally (suc n) = tally-step n (only f n) (tally n) (f n) refl
 
+  -- what a tally says
+  is-none : (n : ℕ) → Tally f n Nothing → (i : ℕ) → i < n → f i ≡ false
+  is-none n (none k) = k
+
+  is-only : (n j : ℕ) → Tally f n (Outcome j) → IsOnly f n j
+  is-only n _ (one j o) = o
+
+  is-two : (n : ℕ) → Tally f n Several → Two f n
+  is-two n (several t) = t
+
+  two-only : (n j : ℕ) → Two f n → IsOnly f n j → ⊥
+  two-only n j t o =
+      let a = o .alone (t .first) (omega (arith, t .order, t .exists)) (t .one) in
+      let b = o .alone (t .second) (t .exists) (t .other) in
+      omega (arith, t .order)
+
+  -- two tallies are of one choice
+  one-tally : (n : ℕ) (c d : Choice) → Tally f n c → Tally f n d → c ≡ d
+  one-tally n Nothing Nothing x y = refl
+  one-tally n Several Several x y = refl
+  one-tally n (Outcome _) (Outcome _) (one i o) (one j k) = ap Outcome (k .alone i (o .exists) (o .applies))
+  one-tally n Nothing (Outcome _) (none k) (one j o) = absurd (true-false (o .applies) (k j (o .exists)))
+  one-tally n (Outcome _) Nothing (one j o) (none k) = absurd (true-false (o .applies) (k j (o .exists)))
+  one-tally n Nothing Several (none k) (several t) = absurd (true-false (t .other) (k (t .second) (t .exists)))
+  one-tally n Several Nothing (several t) (none k) = absurd (true-false (t .other) (k (t .second) (t .exists)))
+  one-tally n (Outcome _) Several (one j o) (several t) = absurd (two-only n j t o)
+  one-tally n Several (Outcome _) (several t) (one j o) = absurd (two-only n j t o)
+
   -- a number of which it does not hold
   pub only-without : (n : ℕ) → f n ≡ false → only f (n + 1) ≡ only f n
   unfolding only
@@ -127,59 +155,32 @@ asked-only f (One k) n = own-chosen f k n (only (candidate f (One k)) n) (tally 
 -- ---- what is promised of a choice
 
 module _ (f : ℕ → Bool) (n : ℕ) where
+  -- what is chosen with −1 says how many are applicable
+  any-tally : (c : Choice) → choice f n Any ≡ c → Tally f n c
+  unfolding choice
+  any-tally c p = subst (Tally f n) p (tally f n)
+
+  tally-any : (c : Choice) → Tally f n c → choice f n Any ≡ c
+  unfolding choice
+  tally-any c t = one-tally f n (only f n) c (tally f n) t
+
   -- with −1 the only applicable outcome is chosen, and one is chosen only there
   pub any-alone : (j : ℕ) → choice f n Any ≡ Outcome j → IsOnly f n j
-  unfolding choice
-  any-alone j p = go (only f n) (tally f n) p
-    where
-      go : (c : Choice) → Tally f n c → c ≡ Outcome j → IsOnly f n j
-      go Nothing (none k) e = let z : _≡_ {A = ℕ} 0 1 = cc in absurd (omega arith)
-      go (Outcome _) (one i o) e = let z : i ≡ j = cc in rw (← z) o
-      go Several (several t) e = let z : _≡_ {A = ℕ} 0 1 = cc in absurd (omega arith)
+  any-alone j p = is-only f n j (any-tally (Outcome j) p)
 
   pub alone-any : (j : ℕ) → IsOnly f n j → choice f n Any ≡ Outcome j
-  unfolding choice
-  alone-any j o = go (only f n) (tally f n)
-    where
-      go : (c : Choice) → Tally f n c → c ≡ Outcome j
-      go Nothing (none k) = absurd (true-false (o .applies) (k j (o .exists)))
-      go (Outcome _) (one i x) = rw (o .alone i (x .exists) (x .applies))
-      go Several (several t) =
-          let a = o .alone (t .first) (omega (arith, t .order, t .exists)) (t .one) in
-          let b = o .alone (t .second) (t .exists) (t .other) in
-          absurd (omega (arith, t .order))
+  alone-any j o = tally-any (Outcome j) (one j o)
 
   -- 11 with −1: no outcome is applicable
   pub any-none : choice f n Any ≡ Nothing → (i : ℕ) → i < n → f i ≡ false
-  unfolding choice
-  any-none p = go (only f n) (tally f n) p
-    where
-      go : (c : Choice) → Tally f n c → c ≡ Nothing → (i : ℕ) → i < n → f i ≡ false
-      go Nothing (none k) e = k
-      go (Outcome _) (one i o) e = let z : _≡_ {A = ℕ} 0 1 = cc in absurd (omega arith)
-      go Several (several t) e = let z : _≡_ {A = ℕ} 0 1 = cc in absurd (omega arith)
+  any-none p = is-none f n (any-tally Nothing p)
 
   -- 16 with −1: two outcomes or more are applicable, and it is given wherever they are
   pub any-two : choice f n Any ≡ Several → Two f n
-  unfolding choice
-  any-two p = go (only f n) (tally f n) p
-    where
-      go : (c : Choice) → Tally f n c → c ≡ Several → Two f n
-      go Nothing (none k) e = let z : _≡_ {A = ℕ} 0 1 = cc in absurd (omega arith)
-      go (Outcome _) (one i o) e = let z : _≡_ {A = ℕ} 0 1 = cc in absurd (omega arith)
-      go Several (several t) e = t
+  any-two p = is-two f n (any-tally Several p)
 
   pub two-any : Two f n → choice f n Any ≡ Several
-  unfolding choice
-  two-any t = go (only f n) (tally f n)
-    where
-      go : (c : Choice) → Tally f n c → c ≡ Several
-      go Nothing (none k) = absurd (true-false (t .other) (k (t .second) (t .exists)))
-      go (Outcome _) (one i o) =
-          let a = o .alone (t .first) (omega (arith, t .order, t .exists)) (t .one) in
-          let b = o .alone (t .second) (t .exists) (t .other) in
-          absurd (omega (arith, t .order))
-      go Several (several x) = refl
+  two-any t = tally-any Several (several t)
 
   -- ---- a wanted outcome
   module _ (k : ℕ) where

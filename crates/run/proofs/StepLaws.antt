@@ -120,7 +120,8 @@ module _ {s : List ℤ} {h : Header} {facts verdicts : List ℤ} {i : ℕ} (w : 
       route-of =
           ⊎-elim (λ e. rw (operation-route s h facts verdicts states i d e)
           (answer-of e (attempted s h facts verdicts states (personaAt s h i) (operationAt s h i) d) refl))
-          (λ e. rw (branch-takes s h facts verdicts states i d e) (branch-of e (truth s h facts verdicts (nodeAt s h i)))) (bool-cases (performs s h i))
+          (λ e. rw (branch-takes s h facts verdicts states i d e) (branch-of e (truth s h facts verdicts (nodeAt s h i))))
+          (bool-cases (performs s h i))
 
       -- the states afterwards are among their entities' states
       pub states-then-in : StatesIn s h (statesThen s h facts verdicts states i d)
