@@ -34,7 +34,7 @@ static const char *const wrong[] = {
     [FERNPOCKET_REFUSED_STATE] = "the state of this entity is not one of its states",
     [FERNPOCKET_REFUSED_PERSONA] = "the persona may not perform the operation",
     [FERNPOCKET_REFUSED_PRECONDITION] = "the operation's precondition is false",
-    [FERNPOCKET_REFUSED_NO_OUTCOME] = "no outcome, or not the wanted one, applies to the present states",
+    [FERNPOCKET_REFUSED_NO_OUTCOME] = "this entity is in no state that the outcome starts from",
     [FERNPOCKET_REFUSED_NOT_PATH] = "the buffer does not begin with a path of the flow",
     [FERNPOCKET_REFUSED_LAST_PATH] = "no path follows the one in the buffer",
     [FERNPOCKET_REFUSED_LINE] = "this line is bad (line place + 1, counted from 1)",
@@ -49,6 +49,19 @@ static fernpocket_answer unrefused(const char *call, fernpocket_answer answer)
         int known = answer.refusal >= FERNPOCKET_REFUSED_HEADER && answer.refusal <= FERNPOCKET_REFUSED_MANY_OUTCOMES;
         fprintf(stderr, "desk: %s: refused %" PRId64 " at %" PRId64 ": %s\n", call, answer.refusal, answer.place,
                 known ? wrong[answer.refusal] : "this program is older than the library");
+        exit(1);
+    }
+    return answer;
+}
+
+/* A refusal 11 in more words: which entity stands in the way of which outcome. */
+static fernpocket_answer unblocked(fernpocket_answer answer, int64_t wanted_outcome)
+{
+    if (answer.refusal == FERNPOCKET_REFUSED_NO_OUTCOME) {
+        int none = wanted_outcome == -1;
+        fprintf(stderr, "desk: operate: refused 11 at %" PRId64 ": %sentity %" PRId64 " is in no state that outcome %" PRId64
+                " starts from\n", answer.place, none ? "no outcome applies, and " : "", answer.place,
+                none ? 0 : wanted_outcome);
         exit(1);
     }
     return answer;
@@ -190,7 +203,7 @@ int main(int argc, char **argv)
         give(argv + 4 + outcome, facts);
         fernpocket_answer answer = fernpocket_operate(sheet, sheet_len, values, facts, given, facts, states, entities,
                                                       persona, operation, wanted_outcome);
-        printf("outcome %" PRId64 "\n", unrefused("operate", answer).value);
+        printf("outcome %" PRId64 "\n", unrefused("operate", unblocked(answer, wanted_outcome)).value);
         print_states(entities);
     } else if (run) {
         int64_t flow = named("FLOW", argv[2]);

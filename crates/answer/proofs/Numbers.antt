@@ -26,7 +26,7 @@ refusalOf n k =
     getD
     (ManyOutcomes
     ∷ Header ∷ Group ∷ Record k ∷ Length ∷ Missing ∷ FactValue k ∷ FactAbsent k ∷ State k
-    ∷ Persona ∷ Precondition ∷ NoOutcome ∷ NotPath ∷ LastPath ∷ Line k ∷ NoRoom ∷ [])
+    ∷ Persona ∷ Precondition ∷ NoOutcome k ∷ NotPath ∷ LastPath ∷ Line k ∷ NoRoom ∷ [])
     n ManyOutcomes
 
 of-own : (r : Refusal) → refusalOf (number r) (place r) ≡ r
@@ -41,7 +41,7 @@ of-own (FactAbsent k) = refl
 of-own (State k) = refl
 of-own Persona = refl
 of-own Precondition = refl
-of-own NoOutcome = refl
+of-own (NoOutcome k) = refl
 of-own NotPath = refl
 of-own LastPath = refl
 of-own (Line k) = refl
@@ -65,7 +65,7 @@ number-range (FactAbsent k) = (omega arith, omega arith)
 number-range (State k) = (omega arith, omega arith)
 number-range Persona = (omega arith, omega arith)
 number-range Precondition = (omega arith, omega arith)
-number-range NoOutcome = (omega arith, omega arith)
+number-range (NoOutcome k) = (omega arith, omega arith)
 number-range NotPath = (omega arith, omega arith)
 number-range LastPath = (omega arith, omega arith)
 number-range (Line k) = (omega arith, omega arith)
@@ -90,16 +90,16 @@ pub walk-done : (a : Walk) → walkAnswer a .refusal ≡ pos 0 → (t : ℕ) × 
 walk-done (Walked t n) e = (t, n, refl)
 walk-done (NoWalk r) e = absurd (number-some r e)
 
--- ---- refusals without a place, by their numbers
+-- ---- refusals by their numbers
 
-count-refused : (a : Count) (q : Refusal) → ((k : ℕ) → refusalOf (number q) k ≡ q) → countAnswer a .refusal ≡ pos (number q) → a ≡ NoCount q
-count-refused (Is n) q p e = absurd (omega (arith, number-range q .0, ap natAbs e))
-count-refused (NoCount r) q p e = ap NoCount (sym (of-own r) ∙ ap (λ (n : ℕ). refusalOf n (place r)) (ap natAbs e) ∙ p (place r))
+count-refused : (a : Count) (n : ℕ) → 1 ≤ n → countAnswer a .refusal ≡ pos n → a ≡ NoCount (refusalOf n (natAbs (countAnswer a .place)))
+count-refused (Is m) n l e = absurd (omega (arith, ap natAbs e))
+count-refused (NoCount r) n l e = ap NoCount (sym (of-own r) ∙ ap (λ (m : ℕ). refusalOf m (place r)) (ap natAbs e))
 
-pub count-eleven : (a : Count) → countAnswer a .refusal ≡ pos 11 → a ≡ NoCount NoOutcome
+pub count-eleven : (a : Count) → countAnswer a .refusal ≡ pos 11 → a ≡ NoCount (NoOutcome (natAbs (countAnswer a .place)))
 unfolding refusalOf
-count-eleven a e = count-refused a NoOutcome (λ k. refl) e
+count-eleven a e = count-refused a 11 (omega arith) e
 
 pub count-sixteen : (a : Count) → countAnswer a .refusal ≡ pos 16 → a ≡ NoCount ManyOutcomes
 unfolding refusalOf
-count-sixteen a e = count-refused a ManyOutcomes (λ k. refl) e
+count-sixteen a e = count-refused a 16 (omega arith) e

@@ -1,6 +1,6 @@
 -- An attempt's answer and the states afterwards, case by case.
 -- Assumes nothing.
-use mathlib.Core.Path.{_≡_, refl, sym, ap, subst, _∙_}
+use mathlib.Core.Path.{_≡_, refl, sym, ap, _∙_}
 use mathlib.Core.Bool.{Bool, true, false, not, _&&_}
 use mathlib.Core.List.{List}
 use mathlib.Core.Logic.{_⊎_, inl, inr}
@@ -26,7 +26,7 @@ use Rattle.operation.specs.Mask.{allowed}
 use Rattle.operation.specs.Inner.{StatesIn, performed}
 use Rattle.operation.specs.Outcomes.{chosen}
 use Rattle.operation.specs.Changes.{applied}
-use Rattle.operation.proofs.Guarantees.{chosen-exists, performed-by, performed-none, performed-several, applied-in}
+use Rattle.operation.proofs.Guarantees.{chosen-exists, place-small, performed-by, performed-none, performed-several, applied-in}
 use Rattle.attempt.specs.Attempts.{precondition, choiceAnswer, attemptAnswer, attempted, statesAfter, attemptedStates}
 use Rattle.attempt.specs.Inner.{Attemptable, attemptedIf, attemptedStatesIf}
 
@@ -41,9 +41,9 @@ module _ (s : List ℤ) (h : Header) (t : Bool) (states : List ℤ) (p o : ℕ) 
   unfolding attemptedIf attemptAnswer
   if-untrue a e = rw (a, e)
 
-  if-stuck : allowed s h o p ≡ true → t ≡ true → chosen s h states o v ≡ Nothing → attemptedIf s h t states p o v ≡ Refused NoOutcome
+  if-stuck : allowed s h o p ≡ true → t ≡ true → (n : ℕ) → chosen s h states o v ≡ Nothing n → attemptedIf s h t states p o v ≡ Refused (NoOutcome n)
   unfolding attemptedIf attemptAnswer
-  if-stuck a e c = rw (a, e, c)
+  if-stuck a e n c = rw (a, e, c)
 
   if-several : allowed s h o p ≡ true → t ≡ true → chosen s h states o v ≡ Several → attemptedIf s h t states p o v ≡ Refused ManyOutcomes
   unfolding attemptedIf attemptAnswer
@@ -67,28 +67,29 @@ no e = absurd (omega arith)
 past : (a t : Bool) (x c : Choice) → attemptAnswer a t x ≡ choiceAnswer c → (a ≡ true) × (t ≡ true) × (x ≡ c)
 unfolding attemptAnswer
 past true true (Outcome i) (Outcome j) e = let z : i ≡ j = cc in (refl, refl, ap Outcome z)
-past true true Nothing Nothing e = (refl, refl, refl)
+past true true (Nothing i) (Nothing j) e = let z : i ≡ j = cc in (refl, refl, ap Nothing z)
 past true true Several Several e = (refl, refl, refl)
-past true true (Outcome i) Nothing e = no cc
+past true true (Outcome i) (Nothing j) e = no cc
 past true true (Outcome i) Several e = no cc
-past true true Nothing (Outcome j) e = no cc
-past true true Nothing Several e = no cc
+past true true (Nothing i) (Outcome j) e = no cc
+past true true (Nothing i) Several e = no cc
 past true true Several (Outcome j) e = no cc
-past true true Several Nothing e = no cc
+past true true Several (Nothing j) e = no cc
 past true false x (Outcome j) e = no cc
-past true false x Nothing e = no cc
+past true false x (Nothing j) e = no cc
 past true false x Several e = no cc
 past false t x (Outcome j) e = no cc
-past false t x Nothing e = no cc
+past false t x (Nothing j) e = no cc
 past false t x Several e = no cc
 
-answer-small : (a t : Bool) (x : Choice) → ((j : ℕ) → x ≡ Outcome j → j < 2 ^ 63) → SmallCount (attemptAnswer a t x)
+answer-small : (a t : Bool) (x : Choice) → ((j : ℕ) → x ≡ Outcome j → j < 2 ^ 63) → ((n : ℕ) → x ≡ Nothing n → n < 2 ^ 63)
+    → SmallCount (attemptAnswer a t x)
 unfolding attemptAnswer
-answer-small true true (Outcome j) k = k j refl
-answer-small true true Nothing k = omega arith
-answer-small true true Several k = omega arith
-answer-small true false x k = omega arith
-answer-small false t x k = omega arith
+answer-small true true (Outcome j) k l = k j refl
+answer-small true true (Nothing n) k l = l n refl
+answer-small true true Several k l = omega arith
+answer-small true false x k l = omega arith
+answer-small false t x k l = omega arith
 
 module _ (s : List ℤ) (h : Header) (facts verdicts states : List ℤ) (p o : ℕ) (v : Wanted) where
   -- an answer of a choice: the attempt came as far as that choice
@@ -127,12 +128,13 @@ module _ {s : List ℤ} {h : Header} {facts verdicts states : List ℤ} {p o : �
   pub outcome-below : (j : ℕ) → attempted s h facts verdicts states p o v ≡ Is j → j < operation s h o .w4
   outcome-below j q = chosen-exists s h states o v j (chose-so s h facts verdicts states p o v (Outcome j) q .chosen)
 
-  -- so it fits a signed word
+  -- so it fits a signed word, as does the entity that blocks
   pub attempt-small : SmallCount (attempted s h facts verdicts states p o v)
   unfolding attempted
   attempt-small =
       answer-small (allowed s h o p) (truth s h facts verdicts (precondition s h o)) (chosen s h states o v)
       (λ j e. omega (arith, chosen-exists s h states o v j e, operation-ok (w .ready .accepted) o (w .ready .exists) .outcomes-few))
+      (λ n e. omega (arith, place-small (w .ready) v n e))
 
   -- the states afterwards are among their entities' states again
   pub attempted-in : StatesIn s h (attemptedStates s h facts verdicts states p o v)
@@ -170,12 +172,13 @@ module _ (s : List ℤ) (h : Header) (t : Bool) (states : List ℤ) (p o : ℕ) 
               let e = if-went s h t states p o v yes-allowed (not-false t u) j c in
               (sym e, rw e (is-performed ∙ performed-by s h states o v j c))
 
-          pub at-nothing : x ≡ Nothing → (Refused NoOutcome ≡ attemptedIf s h t states p o v) × (end ≡ attemptedStatesIf s h t states p o v)
+          pub at-nothing : (n : ℕ) → x ≡ Nothing n
+              → (Refused (NoOutcome n) ≡ attemptedIf s h t states p o v) × (end ≡ attemptedStatesIf s h t states p o v)
           unfolding attemptedStatesIf statesAfter
-          at-nothing z =
+          at-nothing n z =
               let c = sym is-chosen ∙ z in
-              let e = if-stuck s h t states p o v yes-allowed (not-false t u) c in
-              (sym e, rw e (is-performed ∙ performed-none s h states o v c))
+              let e = if-stuck s h t states p o v yes-allowed (not-false t u) n c in
+              (sym e, rw e (is-performed ∙ performed-none s h states o v n c))
 
           pub at-several : x ≡ Several → (Refused ManyOutcomes ≡ attemptedIf s h t states p o v) × (end ≡ attemptedStatesIf s h t states p o v)
           unfolding attemptedStatesIf statesAfter

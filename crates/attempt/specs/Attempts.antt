@@ -1,4 +1,4 @@
--- 01, "Operation (004)", and 02, CR 1: persona, then precondition, then states.
+-- 01, "Operation (004)", and 02, CR 1 and CR 2: persona, then precondition, then states.
 -- Assumes nothing.
 use mathlib.Core.Bool.{Bool, true, false}
 use mathlib.Core.List.{List}
@@ -20,11 +20,11 @@ use Rattle.operation.specs.Changes.{applied}
 abbrev pub precondition : List ℤ → Header → ℕ → ℕ
 precondition s h o = preconditionOf (operation s h o)
 
--- what a choice answers. 11: no outcome is applicable, or the wanted one is not. 16, "directly after 11": none is wanted and several are
--- applicable
+-- what a choice answers. 11: no outcome is applicable, or the wanted one is not; the place is the entity that blocks. 16, "directly after 11":
+-- none is wanted and several are applicable
 abbrev pub choiceAnswer : Choice → Count
 choiceAnswer (Outcome j) = Is j
-choiceAnswer Nothing = Refused NoOutcome
+choiceAnswer (Nothing n) = Refused (NoOutcome n)
 choiceAnswer Several = Refused ManyOutcomes
 
 -- 9: the persona is not in the mask. 10: the precondition is false. Else what the choice answers

@@ -83,7 +83,7 @@ pub fn attempt_known(
     }
     match perform(s, h, states, o, wanted) {
         Choice::Outcome(j) => Count::Is(j),
-        Choice::Nothing => Count::Refused(Refusal::NoOutcome),
+        Choice::Nothing(n) => Count::Refused(Refusal::NoOutcome(n)),
         Choice::Several => Count::Refused(Refusal::ManyOutcomes),
     }
 }

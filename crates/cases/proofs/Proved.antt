@@ -27,7 +27,7 @@ use Rattle.predicate.specs.Values.{valueStep, valueOf}
 use Rattle.predicate.specs.Verdicts.{verdictsTo, verdictsOf}
 use Rattle.operation.specs.Changes.{mover, newState, applied}
 use Rattle.operation.specs.Mask.{allowed}
-use Rattle.operation.specs.Outcomes.{ofOutcome, starts, moves, matched, unblocked, applicable, wantedOf, goodWanted, another, only, choice, chosen}
+use Rattle.operation.specs.Outcomes.{ofOutcome, starts, moves, matched, unblocked, applicable, blocking, blocker, wantedOf, goodWanted, another, only, choice, chosen}
 use Rattle.operation.specs.States.{stateIn, firstStray, statesFault}
 use Rattle.attempt.specs.Attempts.{attemptAnswer, attempted, statesAfter, attemptedStates}
 use Rattle.walks.specs.Follows.{begins, headOf, following, laid}
@@ -49,9 +49,9 @@ use Rattle.decimal.specs.Decimal.{digitsIn, digits, sign, decimal, hasText, mag
 use Rattle.text.specs.Calls.{before, judged as judged-text}
 use Rattle.text.specs.Lines.{all, join, line, goodRow, rows, rowsOf, textOf, joined, cut, linesOf, numbers, wordsOf, same as same-text, goodLine}
 use Rattle.path_lines.specs.Output.{refusedLine, pathLine, flowLines, flowsLines, sheetLines, textCount, wordsEntrance, entrance, written, output}
-use Rattle.cases.specs.Sheets.{whole, sixRoutes, thirdOutcome, sumWith}
-use Rattle.cases.specs.CaseTable.{row, same, wrong, listed, ranFrom, operatedFrom, wantedCases, judged, assembledWith, cases, wrote}
+use Rattle.cases.specs.Sheets.{whole, sixRoutes, thirdOutcome, sumWith, threeEntities}
+use Rattle.cases.specs.CaseTable.{row, same, wrong, listed, ranFrom, operatedFrom, operatedOnThree, wantedCases, blockedCases, judged, assembledWith, cases, wrote}
 
 pub none-wrong : wrong cases ≡ []
-unfolding holds canHold canFail eqZ within bounded num minZ maxZ recordAt wordsAt numbersOf unused allBelow anyBelow sumBelow firstFail grown entry goodGroup goodGroups headerOf inLimits goodFrame goodHeader has allOf distinct joined-lists pick small factTypeOf rowOf fits tablesOf goodIn firstBad checked goodEntity goodChange goodTransition sameChange declared goodDefault agree goodFact goodFlow goodOperationStep goodBranchStep goodStep flowOf stepOf goodRouteOf goodRoute namedByRules namedByOperations namedBySteps goodRoot itemStep itemOf treeStep treeOf namedByNodes goodChildren goodNode goodMask goodOperation operationOf goodOutcome sameSource goodEffectOf goodEffect citesLower goodRule valueTaken assembled factFault firstRefused factsFault valueStep valueOf verdictsTo verdictsOf mover newState applied allowed ofOutcome starts moves matched unblocked applicable wantedOf goodWanted another only choice chosen stateIn firstStray statesFault attemptAnswer attempted statesAfter attemptedStates begins headOf following laid firstWalk firstLaid answerOf bufferOf nextWalk nextLaid greatest depth firstRouteOf routesOf ends target lastOf terminal onward inTurn pathsFrom paths path started taken-listing wantedAt outcomesAt goodWord goodWords answerRoute branchRoute routeTaken statesThen begun stepped runOn ran ranWalk ranPath ranStates then unless reached by climb assembleRungs wantedExists operateRungs stepsOr runRungs flowRungs publicCall publicCalls settled nextOpen leaves enters round flagged maskBelow reachable effectPasses reportRungs whole sixRoutes thirdOutcome sumWith row same wrong listed ranFrom operatedFrom wantedCases judged assembledWith cases opened digitsIn digits sign decimal hasText magnitude value before judged-text all join line goodRow rows rowsOf textOf joined cut linesOf numbers wordsOf same-text goodLine refusedLine pathLine flowLines flowsLines sheetLines textCount wordsEntrance entrance written output wrote
+unfolding holds canHold canFail eqZ within bounded num minZ maxZ recordAt wordsAt numbersOf unused allBelow anyBelow sumBelow firstFail grown entry goodGroup goodGroups headerOf inLimits goodFrame goodHeader has allOf distinct joined-lists pick small factTypeOf rowOf fits tablesOf goodIn firstBad checked goodEntity goodChange goodTransition sameChange declared goodDefault agree goodFact goodFlow goodOperationStep goodBranchStep goodStep flowOf stepOf goodRouteOf goodRoute namedByRules namedByOperations namedBySteps goodRoot itemStep itemOf treeStep treeOf namedByNodes goodChildren goodNode goodMask goodOperation operationOf goodOutcome sameSource goodEffectOf goodEffect citesLower goodRule valueTaken assembled factFault firstRefused factsFault valueStep valueOf verdictsTo verdictsOf mover newState applied allowed ofOutcome starts moves matched unblocked applicable blocking blocker wantedOf goodWanted another only choice chosen stateIn firstStray statesFault attemptAnswer attempted statesAfter attemptedStates begins headOf following laid firstWalk firstLaid answerOf bufferOf nextWalk nextLaid greatest depth firstRouteOf routesOf ends target lastOf terminal onward inTurn pathsFrom paths path started taken-listing wantedAt outcomesAt goodWord goodWords answerRoute branchRoute routeTaken statesThen begun stepped runOn ran ranWalk ranPath ranStates then unless reached by climb assembleRungs wantedExists operateRungs stepsOr runRungs flowRungs publicCall publicCalls settled nextOpen leaves enters round flagged maskBelow reachable effectPasses reportRungs whole sixRoutes thirdOutcome sumWith threeEntities row same wrong listed ranFrom operatedFrom operatedOnThree wantedCases blockedCases judged assembledWith cases opened digitsIn digits sign decimal hasText magnitude value before judged-text all join line goodRow rows rowsOf textOf joined cut linesOf numbers wordsOf same-text goodLine refusedLine pathLine flowLines flowsLines sheetLines textCount wordsEntrance entrance written output wrote
 none-wrong = refl

@@ -1,4 +1,4 @@
--- The proved cases of 01 and of 02's requests as one table: each row is what a public call's contract says of it, beside what 01 says.
+-- The proved cases of 01 and of 02's requests as one table: each row is what a public call's contract says of it, beside what the papers say.
 -- Assumes nothing.
 use mathlib.Core.Bool.{Bool, true, false, _&&_}
 use mathlib.Core.List.{List, [], _∷_, _++_, map}
@@ -16,7 +16,7 @@ use Rattle.calls.specs.Lists.{publicCall, publicCalls}
 use Rattle.text.specs.Lines.{textOf}
 use Rattle.path_lines.specs.Output.{output}
 use Rattle.calls.specs.Reports.{reachableAnswer, depthAnswer}
-use Rattle.cases.specs.Sheets.{whole, sixRoutes, thirdOutcome, sumWith}
+use Rattle.cases.specs.Sheets.{whole, sixRoutes, thirdOutcome, sumWith, threeEntities}
 
 -- a case by its number: the row that the definitions give, and the row that the papers give
 pub record Case : Type 0 where
@@ -68,6 +68,12 @@ operatedFrom q w =
     let states = pos q ∷ [] in
     row (countAnswer (operateAnswer whole one one states (pos 0) (pos 0) w)) (operateStates whole one one states (pos 0) (pos 0) w) []
 
+-- the operation on three entities, from states a, b and c, with w wanted
+unfoldable pub operatedOnThree : ℕ → ℕ → ℕ → ℤ → List ℤ
+operatedOnThree a b c w =
+    let states = pos a ∷ pos b ∷ pos c ∷ [] in
+    row (countAnswer (operateAnswer threeEntities [] [] states (pos 0) (pos 0) w)) (operateStates threeEntities [] [] states (pos 0) (pos 0) w) []
+
 unfoldable pub judged : List ℤ → List ℤ
 judged s = row (statusAnswer (checked s)) [] []
 
@@ -80,6 +86,18 @@ unfoldable pub wrote : List ℤ → List ℤ
 wrote s = map pos (output (textOf s))
 
 -- ---- the table
+
+-- 02, CR 2, numbered 12: the first entity, in the effects' order, that blocks the wanted outcome, or with −1 outcome 0
+unfoldable pub blockedCases : List Case
+blockedCases =
+    record { number = 12; got = operatedOnThree 0 0 1 (pos 0); want = 11 ∷ 2 ∷ 0 ∷ 0 ∷ 0 ∷ 0 ∷ 1 ∷ [] }
+    ∷ record { number = 12; got = operatedOnThree 1 0 0 (pos 0); want = 11 ∷ 0 ∷ 0 ∷ 0 ∷ 1 ∷ 0 ∷ 0 ∷ [] }
+    ∷ record { number = 12; got = operatedOnThree 1 1 1 (pos 0); want = 11 ∷ 2 ∷ 0 ∷ 0 ∷ 1 ∷ 1 ∷ 1 ∷ [] }
+    ∷ record { number = 12; got = operatedOnThree 0 1 1 (pos 1); want = 11 ∷ 1 ∷ 0 ∷ 0 ∷ 0 ∷ 1 ∷ 1 ∷ [] }
+    ∷ record { number = 12; got = operatedOnThree 0 0 1 (pos 1); want = 11 ∷ 0 ∷ 0 ∷ 0 ∷ 0 ∷ 0 ∷ 1 ∷ [] }
+    ∷ record { number = 12; got = operatedOnThree 0 1 1 (negsuc 0); want = 11 ∷ 2 ∷ 0 ∷ 0 ∷ 0 ∷ 1 ∷ 1 ∷ [] }
+    ∷ record { number = 12; got = operatedOnThree 0 1 0 (negsuc 0); want = 0 ∷ 0 ∷ 0 ∷ 0 ∷ 1 ∷ 0 ∷ 1 ∷ [] }
+    ∷ []
 
 -- 02, CR 1, numbered 11: both outcomes start from state 0, and none from state 1
 unfoldable pub wantedCases : List Case
@@ -94,7 +112,7 @@ wantedCases =
     ∷ record { number = 11; got = ranFrom 1 1 0 (pos 1); want = 0 ∷ 0 ∷ 0 ∷ 2 ∷ 2 ∷ 0 ∷ 3 ∷ [] }
     ∷ record { number = 11; got = ranFrom 1 1 0 (negsuc 0); want = 0 ∷ 0 ∷ 2 ∷ 2 ∷ 0 ∷ 0 ∷ 4 ∷ [] }
     ∷ record { number = 11; got = ranFrom 1 0 0 (pos 2); want = 5 ∷ 0 ∷ 0 ∷ 0 ∷ 0 ∷ 9 ∷ 9 ∷ [] }
-    ∷ []
+    ∷ blockedCases
 
 unfoldable pub cases : List Case
 cases =

@@ -1,21 +1,22 @@
--- With −1 an operation call answers what 01's own rule answered, unless it is refused 16.
+-- With −1 an operation call answers what 01's own rule answered, but for the place of 11, unless it is refused 16.
 -- Assumes nothing.
 use mathlib.Core.Path.{_≡_, refl, sym, ap, _∙_}
-use mathlib.Core.Bool.{Bool, true, false, not, _&&_}
+use mathlib.Core.Bool.{Bool, true, false, not}
 use mathlib.Core.List.{List}
-use Prim.Native.Nat.{ℕ, _<_}
+use Prim.Native.Nat.{ℕ, _≤_, _<_}
 use lib.IntN.{ℤ, pos, negsuc}
 use native.Mathlib.Omega.{arith}
 use native.Mathlib.Decide.{decLt}
-use borrow.Author.Tests.{lt-ltb, le-ltb, not-true, not-false}
+use borrow.Author.Tests.{lt-ltb, le-ltb, ne-eqb, not-true, not-false}
 use Rattle.tables.proofs.Bools.{true-false, and-yes}
 use Rattle.tables.proofs.Scanned.{Scanned, first-scan}
-use Rattle.signed.specs.Words.{num}
+use Rattle.signed.specs.Words.{num, eqZ}
 use Rattle.answer.specs.declared.Refusal.{Refusal}
 use Rattle.answer.specs.declared.Refusal.the-variants.{ManyOutcomes}
 use Rattle.answer.specs.declared.Status.{Status}
 use Rattle.answer.specs.declared.Count.{Count}
-use Rattle.answer.specs.declared.Count.the-variants.{Is, Refused as NoCount}
+use Rattle.answer.specs.declared.Count.the-variants.{Refused as NoCount}
+use Rattle.answer.specs.Number.{number}
 use Rattle.answer.specs.Answers.{countAnswer}
 use Rattle.layout.specs.declared.Header.{Header}
 use Rattle.layout.specs.Header.{headerOf}
@@ -23,7 +24,8 @@ use Rattle.records.specs.Operations.{outcomes}
 use Rattle.operation.specs.declared.Choice.{Choice}
 use Rattle.operation.specs.declared.Choice.the-variants.{Outcome, Nothing, Several}
 use Rattle.operation.specs.declared.Wanted.the-variants.{Any}
-use Rattle.operation.specs.Outcomes.{wantedOf, goodWanted, only, choice, applicable, chosen}
+use Rattle.operation.specs.Outcomes.{wantedOf, goodWanted, only, choice, applicable, blocker, chosen}
+use Rattle.operation.specs.Inner.{placed}
 use Rattle.operation.proofs.Choices.{Tally, none, one, several, tally, any-word}
 use Rattle.attempt.specs.Attempts.{attemptAnswer, attempted, statesAfter, attemptedStates}
 use Rattle.ladder.specs.declared.Climbed.{Climbed}
@@ -31,16 +33,16 @@ use Rattle.ladder.specs.declared.Climbed.the-variants.{At, Stopped}
 use Rattle.ladder.specs.Ladder.{opened, reached, climb, by, left, exists}
 use Rattle.ladder.proofs.ClimbLaws.{worked}
 use Rattle.calls.specs.Evaluation.{wantedExists, operateRungs, operateClimb, attemptedOver, attemptedStatesOver, operateAnswer, operateStates}
-use Rattle.fernpocket.specs.Before.{firstApplicable, firstChoice, attemptedBefore, rungsBefore, climbBefore, overBefore, operateBefore, statesBefore}
-use Rattle.fernpocket.specs.Promised.{TwoApply}
+use Rattle.evaluate.proofs.EvaluateLaws.{operate-early}
+use Rattle.fernpocket.specs.Before.{placeless, firstApplicable, firstChoice, attemptedBefore, rungsBefore, climbBefore, overBefore, operateBefore, statesBefore}
 use Rattle.fernpocket.proofs.InNumbers.{sixteen}
 
 -- ---- the choice
 
--- the only applicable outcome is the first
-any-first : (f : ℕ → Bool) (n : ℕ) → (choice f n Any ≡ Several → ⊥) → choice f n Any ≡ firstChoice f n
-unfolding choice firstChoice firstApplicable
-any-first f n x = go (only f n) (tally f n) x (decLt m n)
+-- the only applicable outcome is the first; where there is none, 01's place is 0
+any-first : (f : ℕ → Bool) (g : ℕ → ℕ) (n : ℕ) → (choice f g n Any ≡ Several → ⊥) → placed 0 (choice f g n Any) ≡ firstChoice f n
+unfolding choice firstChoice firstApplicable placed
+any-first f g n x = go (only f (g 0) n) (tally f (g 0) n) x (decLt m n)
   where
     m : ℕ
     m = firstApplicable f n
@@ -48,23 +50,47 @@ any-first f n x = go (only f n) (tally f n) x (decLt m n)
     found : Scanned (λ j. not (f j)) 0 n m
     found = first-scan (λ j. not (f j)) n
 
-    go : (c : Choice) → Tally f n c → (c ≡ Several → ⊥) → Dec (m < n) → c ≡ firstChoice f n
-    go Nothing (none k) x (yes l) = absurd (true-false (not-false (f m) (found .fails l)) (k m l))
-    go Nothing (none k) x (no l) = rw (le-ltb m n (omega arith))
+    go : (c : Choice) → Tally f (g 0) n c → (c ≡ Several → ⊥) → Dec (m < n) → placed 0 c ≡ firstChoice f n
+    go (Nothing _) (none k) x (yes l) = absurd (true-false (not-false (f m) (found .fails l)) (k m l))
+    go (Nothing _) (none k) x (no l) = rw (le-ltb m n (omega arith))
     go (Outcome _) (one j o) x (yes l) = let e = o .alone m l (not-false (f m) (found .fails l)) in rw (lt-ltb m n l, e)
     go (Outcome _) (one j o) x (no l) = absurd (true-false (o .applies) (not-true (f j) (found .passed j (omega arith) (omega (arith, o .exists)))))
     go Several (several t) x l = absurd (x refl)
 
 -- ---- the attempt
 
-same-answer : (a t : Bool) (c d : Choice) → ((c ≡ Several → ⊥) → c ≡ d) → (attemptAnswer a t c ≡ NoCount ManyOutcomes → ⊥)
-    → attemptAnswer a t c ≡ attemptAnswer a t d
+same-answer : (a t : Bool) (c d : Choice) → ((c ≡ Several → ⊥) → placed 0 c ≡ d) → (attemptAnswer a t c ≡ NoCount ManyOutcomes → ⊥)
+    → attemptAnswer a t (placed 0 c) ≡ attemptAnswer a t d
 unfolding attemptAnswer
 same-answer false t c d e x = refl
 same-answer true false c d e x = refl
 same-answer true true (Outcome j) d e x = ap (attemptAnswer true true) (e (λ z. let y : _≡_ {A = ℕ} 0 1 = cc in omega arith))
-same-answer true true Nothing d e x = ap (attemptAnswer true true) (e (λ z. let y : _≡_ {A = ℕ} 0 1 = cc in omega arith))
+same-answer true true (Nothing n) d e x = ap (attemptAnswer true true) (e (λ z. let y : _≡_ {A = ℕ} 0 1 = cc in omega arith))
 same-answer true true Several d e x = absurd (x refl)
+
+-- an answer without 11's place is that of a choice without a place
+answer-placed : (a t : Bool) (c : Choice) → placeless (countAnswer (attemptAnswer a t c)) ≡ countAnswer (attemptAnswer a t (placed 0 c))
+unfolding attemptAnswer placed placeless eqZ
+answer-placed false t c = refl
+answer-placed true false c = refl
+answer-placed true true (Outcome j) = refl
+answer-placed true true (Nothing n) = refl
+answer-placed true true Several = refl
+
+-- and leaves the same states
+states-placed : (s : List ℤ) (h : Header) (states : List ℤ) (o : ℕ) (a t : Bool) (c : Choice)
+    → statesAfter s h states o (attemptAnswer a t c) ≡ statesAfter s h states o (attemptAnswer a t (placed 0 c))
+unfolding attemptAnswer placed statesAfter
+states-placed s h states o false t c = refl
+states-placed s h states o true false c = refl
+states-placed s h states o true true (Outcome j) = refl
+states-placed s h states o true true (Nothing n) = refl
+states-placed s h states o true true Several = refl
+
+-- a refusal of the ladder is not 11
+placeless-early : (r : Refusal) → number r ≤ 8 → placeless (countAnswer (NoCount r)) ≡ countAnswer (NoCount r)
+unfolding placeless eqZ
+placeless-early r l = rw (ne-eqb (number r) 11 (λ e. omega arith))
 
 -- ---- the ladder: −1 is never refused
 
@@ -91,21 +117,33 @@ module _ (s values given states : List ℤ) (p o : ℤ) where
 
   module _ (x : countAnswer (operateAnswer s values given states p o (negsuc 0)) .refusal ≡ pos 16 → ⊥) where
     same-over : (h : Header) → operateClimb s values given states p o (negsuc 0) ≡ At h
-        → attemptedOver s h values given states (num p) (num o) (wantedOf (negsuc 0)) ≡ overBefore s h values given states (num p) (num o)
-    unfolding attempted attemptedBefore chosen
+        → (placeless (countAnswer (attemptedOver s h values given states (num p) (num o) (wantedOf (negsuc 0))))
+        ≡ countAnswer (overBefore s h values given states (num p) (num o)))
+        × (attemptedStatesOver s h values given states (num p) (num o) (wantedOf (negsuc 0))
+        ≡ statesAfter s h states (num o) (overBefore s h values given states (num p) (num o)))
+    unfolding attempted attemptedBefore attemptedStates chosen
     same-over h e =
-        same-answer _ _ (chosen s h states (num o) (wantedOf (negsuc 0))) (firstChoice (applicable s h states (num o)) (outcomes s h (num o)))
-        (rw (any-word refl) (any-first (applicable s h states (num o)) (outcomes s h (num o))))
-        (λ z. x (ap (λ (a : Count). countAnswer a .refusal) (sym (worked _ _ refl e refl) ∙ z)))
+        let c = chosen s h states (num o) (wantedOf (negsuc 0)) in
+        let k =
+        same-answer _ _ c (firstChoice (applicable s h states (num o)) (outcomes s h (num o)))
+        (rw (any-word refl) (any-first (applicable s h states (num o)) (blocker s h states (num o)) (outcomes s h (num o))))
+        (λ z. x (ap (λ (a : Count). countAnswer a .refusal) (sym (worked _ _ refl e refl) ∙ z))) in
+        (answer-placed _ _ c ∙ ap countAnswer k, states-placed s h states (num o) _ _ c ∙ ap (statesAfter s h states (num o)) k)
 
-    pub before-unless-16 : (operateAnswer s values given states p o (negsuc 0) ≡ operateBefore s values given states p o)
+    answer-same : (c : Climbed) → operateClimb s values given states p o (negsuc 0) ≡ c
+        → placeless (countAnswer (by c NoCount (λ h. attemptedOver s h values given states (num p) (num o) (wantedOf (negsuc 0)))))
+        ≡ countAnswer (by c NoCount (λ h. overBefore s h values given states (num p) (num o)))
+    unfolding by
+    answer-same (At h) e = same-over h e .0
+    answer-same (Stopped r) e = placeless-early r (operate-early s values given states p o (negsuc 0) e)
+
+    pub before-unless-16 :
+        (placeless (countAnswer (operateAnswer s values given states p o (negsuc 0))) ≡ countAnswer (operateBefore s values given states p o))
         × (operateStates s values given states p o (negsuc 0) ≡ statesBefore s values given states p o)
-    unfolding attemptedStates
     before-unless-16 = (
-      by-same (operateClimb s values given states p o (negsuc 0)) NoCount _ _ same-over
-          ∙ ap (λ (c : Climbed). by c NoCount (λ h. overBefore s h values given states (num p) (num o))) same-climb,
-      by-same (operateClimb s values given states p o (negsuc 0)) (λ _. states) _ _
-          (λ h e. ap (statesAfter s h states (num o)) (same-over h e))
+      answer-same (operateClimb s values given states p o (negsuc 0)) refl
+          ∙ ap (λ (c : Climbed). countAnswer (by c NoCount (λ h. overBefore s h values given states (num p) (num o)))) same-climb,
+      by-same (operateClimb s values given states p o (negsuc 0)) (λ _. states) _ _ (λ h e. same-over h e .1)
           ∙ ap (λ (c : Climbed). left c states (λ h. statesAfter s h states (num o) (overBefore s h values given states (num p) (num o)))) same-climb,
     )
 

@@ -35,12 +35,12 @@ use Rattle.calls.specs.Flows.{firstAnswer, firstPath, nextAnswer, nextPath, run
 use Rattle.calls.specs.Reports.{reachableAnswer}
 use Rattle.calls.specs.Lists.{publicCall, publicCalls, ListedNumbers}
 use Rattle.flows.proofs.PublicListing.{public-numbers, public-whole}
-use Rattle.fernpocket.specs.Before.{operateBefore, statesBefore}
-use Rattle.fernpocket.specs.Promised.{Went, WasRefused, FlowReady, readTo13, RanPath, TwoApply, OneApplies, Operated, NoneApplies, Decided, Foreseen}
+use Rattle.fernpocket.specs.Before.{placeless, operateBefore, statesBefore}
+use Rattle.fernpocket.specs.Promised.{Went, WasRefused, FlowReady, readTo13, RanPath, TwoApply, OneApplies, Operated, Blocked, NoneApplies, Decided, Foreseen}
 use Rattle.fernpocket.proofs.AsBefore.{before-unless-16, one-never-16}
 use Rattle.fernpocket.proofs.Covered.{covered, applied-covered, still-reached}
 use Rattle.fernpocket.proofs.InNumbers.{went-is, listable, ready-sheet, ready-flow, read-same, ran-path, operated, mask-reached}
-use Rattle.fernpocket.proofs.InNumbers.{wanted-goes, only-goes, eleven, sixteen, two-sixteen}
+use Rattle.fernpocket.proofs.InNumbers.{wanted-goes, only-goes, one-blocked, eleven, sixteen, two-sixteen}
 use Rattle.fernpocket.proofs.InNumbers.{read-kept, write-kept, assemble-kept, verdicts-kept, operate-kept}
 use Rattle.fernpocket.proofs.InNumbers.{run-path-kept, run-states-kept, first-kept, next-kept}
 
@@ -110,9 +110,10 @@ module _ (s values given states : List ℤ) (persona operation wanted : ℤ) whe
       → Went (countAnswer (operateAnswer s values given states persona operation wanted)) j
   only-taken = only-goes s values given states persona operation wanted
 
-  -- Refused 11, the wanted outcome is not applicable, or with −1 none is.
+  -- Refused 11, the wanted outcome is not applicable, or with −1 none is. CR 2: the place is the first entity that blocks the wanted outcome, or
+  -- with −1 the outcome numbered 0.
   pub eleven-none : countAnswer (operateAnswer s values given states persona operation wanted) .refusal ≡ pos 11
-      → NoneApplies s states operation wanted
+      → NoneApplies s states operation wanted (countAnswer (operateAnswer s values given states persona operation wanted) .place)
   eleven-none = eleven s values given states persona operation wanted
 
   -- Of the calls that get as far as the states, exactly those are refused 16 that carry −1 and have two applicable outcomes or more.
@@ -147,17 +148,24 @@ module _ (s values given states : List ℤ) (persona operation wanted : ℤ) whe
         let is = rw (num-of n) at (mask-reached s (pos n) mask (went-is (reachableAnswer s (pos n)) w)) in
         is (present after n) .0 (still-reached s values given states persona operation wanted n l (is (present states n) .1 b))
 
--- With −1 an operation call answers and leaves what 01's own rule, the first applicable outcome, answered and left, unless it is refused 16;
+-- No two entities are the first that blocks an outcome, so that `eleven-none` says which number the place is.
+pub one-blocks : (s states : List ℤ) (operation j n m : ℕ) → Blocked s states operation j n → Blocked s states operation j m → n ≡ m
+one-blocks = one-blocked
+
+-- With −1 an operation call answers and leaves what 01's own rule, the first applicable outcome, answered and left, but for the place of 11,
+-- unless it is refused 16;
 pub as-before : (s values given states : List ℤ) (persona operation : ℤ)
     → (countAnswer (operateAnswer s values given states persona operation (negsuc 0)) .refusal ≡ pos 16 → ⊥)
-    → (operateAnswer s values given states persona operation (negsuc 0) ≡ operateBefore s values given states persona operation)
+    → (placeless (countAnswer (operateAnswer s values given states persona operation (negsuc 0)))
+    ≡ countAnswer (operateBefore s values given states persona operation))
     × (operateStates s values given states persona operation (negsuc 0) ≡ statesBefore s values given states persona operation)
 as-before = before-unless-16
 
 -- and an operation with one outcome never is.
 pub one-outcome-as-before : (s values given states : List ℤ) (persona operation : ℤ)
     → outcomes s (headerOf s) (num operation) ≡ 1
-    → (operateAnswer s values given states persona operation (negsuc 0) ≡ operateBefore s values given states persona operation)
+    → (placeless (countAnswer (operateAnswer s values given states persona operation (negsuc 0)))
+    ≡ countAnswer (operateBefore s values given states persona operation))
     × (operateStates s values given states persona operation (negsuc 0) ≡ statesBefore s values given states persona operation)
 one-outcome-as-before s values given states persona operation n =
     before-unless-16 s values given states persona operation (one-never-16 s values given states persona operation n)

@@ -1,11 +1,11 @@
 -- Laws behind the headline theorems: from 01's numbers to the answers' cases, and what each call then did.
 -- Assumes nothing.
 use mathlib.Core.Path.{_≡_, refl, sym, ap, subst, _∙_}
-use mathlib.Core.Bool.{Bool, true}
+use mathlib.Core.Bool.{Bool, true, false}
 use mathlib.Core.List.{List, [], _∷_, _++_}
-use mathlib.Core.Logic.{_↔_, _⊎_, inl, inr}
+use mathlib.Core.Logic.{_↔_, inl, inr}
 use Prim.Native.Nat.{ℕ, zero, suc, _<_, _^_}
-use lib.IntN.{ℤ, pos, negsuc}
+use lib.IntN.{ℤ, pos, negsuc, natAbs}
 use lib.ListN.{length, take}
 use native.Mathlib.Omega.{arith}
 use native.Mathlib.Decide.{decLt}
@@ -26,16 +26,20 @@ use Rattle.answer.specs.Answers.{statusAnswer, countAnswer, walkAnswer}
 use Rattle.answer.proofs.Numbers.{number-some, status-done, count-done, count-eleven, count-sixteen, walk-done}
 use Rattle.layout.specs.declared.Header.{Header}
 use Rattle.layout.specs.Header.{headerOf}
+use Rattle.layout.specs.Tables.{effect, entityOf}
 use Rattle.records.specs.Accepted.{Accepted}
 use Rattle.records.proofs.Acceptance.{accepted}
 use Rattle.records.specs.Operations.{outcomes}
 use Rattle.records.proofs.OperationLaws.{operation-ok}
 use Rattle.operation.specs.Mask.{inMask}
 use Rattle.operation.specs.declared.Choice.the-variants.{Outcome, Nothing, Several}
-use Rattle.operation.specs.Outcomes.{wantedOf, applicable, chosen}
+use Rattle.operation.specs.Outcomes.{wantedOf, applicable, blocking, blocker, chosen}
+use Rattle.operation.specs.Ready.{Ready}
 use Rattle.operation.proofs.Movers.{moves-true, true-moves}
-use Rattle.operation.proofs.Guarantees.{Fate, moved as Goes, unmoved as Stays, fate}
-use Rattle.operation.proofs.Choices.{chosen-applies, word-wanted, word-alone, word-none, word-not, word-several}
+use Rattle.operation.proofs.Guarantees.{Fate, moved as Goes, unmoved as Stays, fate, matched-by, by-matched}
+use Rattle.operation.proofs.Choices.{chosen-applies, nothing-place, about-any, about-one}
+use Rattle.operation.proofs.Choices.{word-wanted, word-alone, word-none, word-not, word-several}
+use Rattle.operation.proofs.Blockers.{not-applicable, blocker-exists}
 use Rattle.facts.specs.Assembled.{assembled}
 use Rattle.predicate.specs.Verdicts.{verdictsOf}
 use Rattle.attempt.proofs.AttemptLaws.{chose-so, outcome-states, refused-states}
@@ -64,7 +68,7 @@ use Rattle.flows.proofs.PublicListing.{public-listing, run-takes-path}
 use Rattle.text.specs.Lines.{wordsOf, textOf}
 use Rattle.text.specs.Calls.{readAnswer, readBuffer, writeAnswer, writeBuffer, filled}
 use Rattle.reports.proofs.ReportLaws.{asked, reachable-is}
-use Rattle.fernpocket.specs.Promised.{Went, WasRefused, FlowReady, readTo13, RanPath, After, moved, stayed, TwoApply, OneApplies, Operated, NoneApplies, Decided}
+use Rattle.fernpocket.specs.Promised.{Went, WasRefused, FlowReady, readTo13, RanPath, After, moved, stayed, TwoApply, OneApplies, Operated, Blocked, NoneApplies, Decided}
 use Rattle.fernpocket.proofs.Covered.{under-header, Made, made, made-after, attempt-ready}
 
 -- ---- answers
@@ -214,6 +218,20 @@ verdicts-kept s values given verdicts x =
 
 -- ---- operations
 
+-- no two entities are the first that blocks an outcome
+pub one-blocked : (s states : List ℤ) (o j n m : ℕ) → Blocked s states o j n → Blocked s states o j m → n ≡ m
+one-blocked s states o j n m a b = go (decLt (a .at) (b .at)) (decLt (b .at) (a .at))
+  where
+    sooner : (n m : ℕ) (a : Blocked s states o j n) (b : Blocked s states o j m) → a .at < b .at → ⊥
+    sooner n m a b l = let e = b .earlier (a .at) l (a .of) in a .unmatched (e .0) (rw (a .names) at (e .1))
+
+    go : Dec (a .at < b .at) → Dec (b .at < a .at) → n ≡ m
+    go (yes l) _ = absurd (sooner n m a b l)
+    go (no x) (yes l) = absurd (sooner m n b a l)
+    go (no x) (no y) =
+        let e : a .at ≡ b .at = omega arith in
+        sym (a .names) ∙ ap (λ (d : ℕ). entityOf (effect s (headerOf s) d)) e ∙ b .names
+
 fate-after : {s : List ℤ} {h : Header} {states : List ℤ} {o j n : ℕ} {state : ℤ}
     → Fate s h states o j n state → After s h states o j n state
 fate-after {s} {h} {states} {o} {j} {n} (Goes e m q) = moved e (true-moves s h states o j n e m) q
@@ -251,6 +269,9 @@ module _ (s values given states : List ℤ) (p o v : ℤ) where
   abbrev applies : ℕ → Bool
   applies = applicable s (headerOf s) states (num o)
 
+  abbrev blocks : ℕ → ℕ
+  blocks = blocker s (headerOf s) states (num o)
+
   abbrev many : ℕ
   many = outcomes s (headerOf s) (num o)
 
@@ -260,7 +281,7 @@ module _ (s values given states : List ℤ) (p o v : ℤ) where
       let k = past (Is j) (λ r e. let z : _≡_ {A = ℕ} 0 1 = cc in absurd (omega arith)) q in
       let ready = attempt-ready s values given states p o v (k .0) in
       let w = chose-so s (headerOf s) facts verdicts states (num p) (num o) (wantedOf v) (Outcome j) (k .1) in
-      let c = chosen-applies applies many (wantedOf v) j (w .chosen) in
+      let c = chosen-applies applies blocks many (wantedOf v) j (w .chosen) in
       let few : j < 2 ^ 63 = omega (arith, c .0, operation-ok (ready .ready .accepted) (num o) (ready .ready .exists) .outcomes-few) in
       let changed = made-after s values given states p o v (k .0)
       ∙ outcome-states s (headerOf s) facts verdicts states (num p) (num o) (wantedOf v) j (k .1) in
@@ -269,21 +290,46 @@ module _ (s values given states : List ℤ) (p o v : ℤ) where
         holds = w .truth;
         exists = c .0;
         applies = c .1;
-        wanted = λ x. num-pos v (word-wanted applies many v j (w .chosen) x) few;
-        alone = λ e. word-alone applies many v j (w .chosen) e .alone;
+        wanted = λ x. num-pos v (word-wanted applies blocks many v j (w .chosen) x) few;
+        alone = λ e. word-alone applies blocks many v j (w .chosen) e .alone;
         each = λ n l. rw changed (fate-after (fate (ready .ready) j n l));
       }
 
-  pub eleven : countAnswer (operateAnswer s values given states p o v) .refusal ≡ pos 11 → NoneApplies s states o v
+  -- an outcome that is not applicable is blocked
+  is-blocked : Ready s (headerOf s) states (num o) → (j n : ℕ) → n ≡ blocks j → applies j ≡ false → Blocked s states (num o) j n
+  is-blocked w j n e f =
+      let b = not-applicable s (headerOf s) states (num o) j f in
+      rw e (record {
+        at = blocking s (headerOf s) states (num o) j;
+        of = b .of;
+        names = b .entity;
+        exists = blocker-exists w j f;
+        unmatched = λ d t. true-false (by-matched w j (blocks j) d (moves-true s (headerOf s) states (num o) j (blocks j) d t)) (b .unmatched);
+        earlier = λ d l t.
+            let m = matched-by w j (effect s (headerOf s) d .w0) (b .earlier d l t) in
+            (m .0, true-moves s (headerOf s) states (num o) j (effect s (headerOf s) d .w0) (m .0) (m .1));
+      })
+
+  pub eleven : countAnswer (operateAnswer s values given states p o v) .refusal ≡ pos 11
+      → NoneApplies s states o v (countAnswer (operateAnswer s values given states p o v) .place)
   unfolding chosen
   eleven e =
-      let k =
-      past (NoCount NoOutcome) (λ r z. let y : NoOutcome ≡ r = cc in rw (← y) (omega arith))
-      (count-eleven (operateAnswer s values given states p o v) e) in
-      let c = chose-so s (headerOf s) facts verdicts states (num p) (num o) (wantedOf v) Nothing (k .1) .chosen in
+      let n = natAbs (countAnswer (operateAnswer s values given states p o v) .place) in
+      let q = count-eleven (operateAnswer s values given states p o v) e in
+      let k = past (NoCount (NoOutcome n)) (λ r z. let y : NoOutcome n ≡ r = cc in rw (← y) (omega arith)) q in
+      let c = chose-so s (headerOf s) facts verdicts states (num p) (num o) (wantedOf v) (Nothing n) (k .1) .chosen in
+      let w = attempt-ready s values given states p o v (k .0) .ready in
+      let at = nothing-place applies blocks many (wantedOf v) n c in
+      let wanted = word-not applies blocks many v n (asked-wanted s values given states p o v (k .0)) c in
+      let none = word-none applies blocks many v n c in
       record {
-        wanted = word-not applies many v (asked-wanted s values given states p o v (k .0)) c;
-        none = word-none applies many v c;
+        wanted = wanted;
+        none = none;
+        entity = n;
+        is-place = ap (λ (a : Count). countAnswer a .place) q;
+        blocks-wanted = λ x. is-blocked w (num v) n (at ∙ ap blocks (about-one v x)) (wanted x);
+        blocks-first = λ x.
+            is-blocked w 0 n (at ∙ ap blocks (about-any x)) (none x 0 (operation-ok (w .accepted) (num o) (w .exists) .outcomes));
       }
 
   pub sixteen : countAnswer (operateAnswer s values given states p o v) .refusal ≡ pos 16 → (v ≡ negsuc 0) × TwoApply s states (num o)
@@ -292,7 +338,8 @@ module _ (s values given states : List ℤ) (p o v : ℤ) where
       let k =
       past (NoCount ManyOutcomes) (λ r z. let y : ManyOutcomes ≡ r = cc in rw (← y) (omega arith))
       (count-sixteen (operateAnswer s values given states p o v) e) in
-      let t = word-several applies many v (chose-so s (headerOf s) facts verdicts states (num p) (num o) (wantedOf v) Several (k .1) .chosen) in (
+      let c = chose-so s (headerOf s) facts verdicts states (num p) (num o) (wantedOf v) Several (k .1) .chosen in
+      let t = word-several applies blocks many v c in (
         t .0,
         record {
           one = t .1 .first;

@@ -1,13 +1,14 @@
 -- 01's own rule of "Operation (004)", which 02's CR 1 replaces: "the first applicable outcome in declared order is chosen"; and what an
--- operation call answered and left by it. No contract cites it: the law `as-before` does.
+-- operation call answered and left by it. Its place for 11 is 0. No contract cites this: the law `as-before` does.
 -- Assumes nothing.
 use mathlib.Core.Bool.{Bool, not, cond, _&&_}
 use mathlib.Core.List.{List}
 use Prim.Native.Nat.{ℕ}
-use lib.IntN.{ℤ}
+use lib.IntN.{ℤ, pos}
 use lib.Dec.{ltb}
 use Rattle.tables.specs.Scan.{firstFail}
-use Rattle.signed.specs.Words.{num}
+use Rattle.signed.specs.Words.{num, eqZ}
+use Rattle.answer.specs.declared.Answer.{Answer}
 use Rattle.answer.specs.declared.Status.{Status}
 use Rattle.answer.specs.declared.Count.{Count}
 use Rattle.answer.specs.declared.Count.the-variants.{Refused as NoCount}
@@ -26,12 +27,16 @@ use Rattle.attempt.specs.Attempts.{precondition, attemptAnswer, statesAfter}
 use Rattle.ladder.specs.declared.Climbed.{Climbed}
 use Rattle.ladder.specs.Ladder.{rungs, opened, climb, by, left, exists, matches, factsLent}
 
+-- an answer with 01's place for 11
+unfoldable pub placeless : Answer → Answer
+placeless a = record { refusal = a .refusal; place = cond (eqZ (a .refusal) (pos 11)) (pos 0) (a .place); value = a .value; length = a .length }
+
 -- the first applicable outcome of n, or n where none is
 unfoldable pub firstApplicable : (ℕ → Bool) → ℕ → ℕ
 firstApplicable applies n = firstFail (λ j. not (applies j)) 0 n
 
 unfoldable pub firstChoice : (ℕ → Bool) → ℕ → Choice
-firstChoice applies n = cond (ltb (firstApplicable applies n) n) (Outcome (firstApplicable applies n)) Nothing
+firstChoice applies n = cond (ltb (firstApplicable applies n) n) (Outcome (firstApplicable applies n)) (Nothing 0)
 
 unfoldable pub attemptedBefore : List ℤ → Header → List ℤ → List ℤ → List ℤ → ℕ → ℕ → Count
 attemptedBefore s h facts verdicts states p o =

@@ -14,14 +14,14 @@ use Rattle.answer.specs.Number.{doneAnswer}
 use Rattle.answer.specs.Answers.{statusAnswer, countAnswer, walkAnswer}
 use Rattle.layout.specs.declared.Header.{Header}
 use Rattle.layout.specs.Header.{headerOf}
-use Rattle.layout.specs.Tables.{effect, toOf}
+use Rattle.layout.specs.Tables.{effect, entityOf, toOf}
 use Rattle.records.specs.Accept.{checked}
 use Rattle.records.specs.Operations.{outcomes}
 use Rattle.facts.specs.Assembled.{assembled}
 use Rattle.predicate.specs.Values.{truth}
 use Rattle.predicate.specs.Verdicts.{verdictsOf}
 use Rattle.operation.specs.Mask.{allowed}
-use Rattle.operation.specs.Outcomes.{moves, applicable}
+use Rattle.operation.specs.Outcomes.{ofOutcome, moves, applicable}
 use Rattle.attempt.specs.Attempts.{precondition}
 use Rattle.walks.specs.Paths.{stepsOf, PathOf, terminal, paths, Among}
 use Rattle.walks.specs.Follows.{laid}
@@ -108,10 +108,26 @@ pub record Operated (s values given states : List ℤ) (p o w : ℤ) (j : ℕ) :
   pub each : (n : ℕ) → n < headerOf s .entities
       → After s (headerOf s) states (num o) j n (getD (operateStates s values given states p o w) n (pos 0))
 
--- an operation was refused 11: the wanted outcome is not applicable, or with −1 none is
-pub record NoneApplies (s states : List ℤ) (o w : ℤ) : Type 0 where
+-- 02, CR 2: entity n is the first that blocks outcome j of operation o: an effect of j names it and no effect of j starts from its state; but
+-- for each effect of j before that one, some effect of j starts from the state of the entity that it names
+pub record Blocked (s states : List ℤ) (o j n : ℕ) : Type 0 where
+  pub at : ℕ
+  pub of : ofOutcome s (headerOf s) o j at ≡ true
+  pub names : entityOf (effect s (headerOf s) at) ≡ n
+  pub exists : n < headerOf s .entities
+  pub unmatched : (e : ℕ) → moves s (headerOf s) states o j n e ≡ true → ⊥
+  pub earlier : (d : ℕ) → d < at → ofOutcome s (headerOf s) o j d ≡ true
+      → (e : ℕ) × (moves s (headerOf s) states o j (entityOf (effect s (headerOf s) d)) e ≡ true)
+
+-- an operation was refused 11: the wanted outcome is not applicable, or with −1 none is; the place is the first entity that blocks the wanted
+-- outcome, or with −1 the outcome numbered 0
+pub record NoneApplies (s states : List ℤ) (o w place : ℤ) : Type 0 where
   pub wanted : (w ≡ negsuc 0 → ⊥) → applicable s (headerOf s) states (num o) (num w) ≡ false
   pub none : w ≡ negsuc 0 → (i : ℕ) → i < outcomes s (headerOf s) (num o) → applicable s (headerOf s) states (num o) i ≡ false
+  pub entity : ℕ
+  pub is-place : place ≡ pos entity
+  pub blocks-wanted : (w ≡ negsuc 0 → ⊥) → Blocked s states (num o) (num w) entity
+  pub blocks-first : w ≡ negsuc 0 → Blocked s states (num o) 0 entity
 
 -- the call got as far as the states: it went through, or was refused 11 or 16
 abbrev pub Decided : Answer → Type 0

@@ -1,7 +1,7 @@
 -- What an operation does on an accepted sheet: what an applicable outcome is, which states change and how, and which stay.
 -- Assumes nothing.
 use mathlib.Core.Path.{_≡_, refl, sym, _∙_}
-use mathlib.Core.Bool.{true, false, not}
+use mathlib.Core.Bool.{true, false}
 use mathlib.Core.List.{List}
 use mathlib.Core.Logic.{_⊎_, inl, inr}
 use Prim.Native.Nat.{ℕ, _<_}
@@ -19,12 +19,13 @@ use Rattle.records.proofs.OperationLaws.{Of, Declared, inside, effect-ok, entit
 use Rattle.operation.specs.declared.Choice.{Choice}
 use Rattle.operation.specs.declared.Choice.the-variants.{Outcome, Nothing, Several}
 use Rattle.operation.specs.States.{present}
-use Rattle.operation.specs.Inner.{StatesIn, after, performed}
+use Rattle.operation.specs.Inner.{StatesIn, about, after, performed}
 use Rattle.operation.specs.declared.Wanted.{Wanted}
-use Rattle.operation.specs.Outcomes.{ofOutcome, moves, matched, unblocked, applicable, chosen}
+use Rattle.operation.specs.Outcomes.{ofOutcome, moves, matched, unblocked, applicable, blocker, chosen}
 use Rattle.operation.specs.Changes.{newState, applied}
 use Rattle.operation.specs.Ready.{Ready}
-use Rattle.operation.proofs.Choices.{chosen-applies}
+use Rattle.operation.proofs.Blockers.{free-matched, matched-free, blocker-small}
+use Rattle.operation.proofs.Choices.{chosen-applies, nothing-place}
 use Rattle.operation.proofs.Movers.{Moves, moves-true, true-moves, stays, goes, length-applied, applied-at}
 
 -- ---- the states, choice by choice
@@ -33,16 +34,16 @@ module _ (s : List ℤ) (h : Header) (states : List ℤ) (o : ℕ) (w : Wanted) 
   -- a chosen outcome is one of the operation's
   pub chosen-exists : (j : ℕ) → chosen s h states o w ≡ Outcome j → j < operation s h o .w4
   unfolding chosen
-  chosen-exists j p = chosen-applies (applicable s h states o) (operation s h o .w4) w j p .0
+  chosen-exists j p = chosen-applies (applicable s h states o) (blocker s h states o) (operation s h o .w4) w j p .0
 
   pub performed-by : (j : ℕ) → chosen s h states o w ≡ Outcome j → performed s h states o w ≡ applied s h states o j
   unfolding performed after
   performed-by j p = rw p
 
   -- where nothing is chosen, nothing changes
-  pub performed-none : chosen s h states o w ≡ Nothing → performed s h states o w ≡ states
+  pub performed-none : (b : ℕ) → chosen s h states o w ≡ Nothing b → performed s h states o w ≡ states
   unfolding performed after
-  performed-none p = rw p
+  performed-none b p = rw p
 
   pub performed-several : chosen s h states o w ≡ Several → performed s h states o w ≡ states
   unfolding performed after
@@ -53,11 +54,19 @@ module _ (s : List ℤ) (h : Header) (states : List ℤ) (o : ℕ) (w : Wanted) 
       → (Outcome j ≡ chosen s h states o w) × (end ≡ performed s h states o w)
   with-outcome r j end p q e = (sym p ∙ q, e ∙ sym (performed-by j (sym q ∙ p)))
 
-  pub with-none : (r : Choice) → r ≡ Nothing → r ≡ chosen s h states o w → (r ≡ chosen s h states o w) × (states ≡ performed s h states o w)
-  with-none r p q = (q, sym (performed-none (sym q ∙ p)))
+  pub with-none : (r : Choice) (b : ℕ) → r ≡ Nothing b → r ≡ chosen s h states o w
+      → (r ≡ chosen s h states o w) × (states ≡ performed s h states o w)
+  with-none r b p q = (q, sym (performed-none b (sym q ∙ p)))
 
   pub with-several : (r : Choice) → r ≡ Several → r ≡ chosen s h states o w → (r ≡ chosen s h states o w) × (states ≡ performed s h states o w)
   with-several r p q = (q, sym (performed-several (sym q ∙ p)))
+
+-- where nothing is chosen, the place is below the most entities that there may be
+pub place-small : {s : List ℤ} {h : Header} {states : List ℤ} {o : ℕ} → Ready s h states o → (w : Wanted) (n : ℕ) → chosen s h states o w ≡ Nothing n
+    → n < 32
+unfolding chosen
+place-small {s} {h} {states} {o} r w n p =
+    rw (nothing-place (applicable s h states o) (blocker s h states o) (operation s h o .w4) w n p) (blocker-small r (about w))
 
 -- ---- what applicable means
 
@@ -76,29 +85,29 @@ module _ {s : List ℤ} {h : Header} {states : List ℤ} {o : ℕ} (w : Ready s 
   unfolding ofOutcome
   in-outcome e p = let q = simp tests at p in record { of = record { low = q .0 .0; high = q .0 .1 }; outcome = q .1; entity = refl }
 
-  matched-by : (n : ℕ) → matched s h states o j n ≡ true → (e : ℕ) × Moves s h states o j n e
+  pub matched-by : (n : ℕ) → matched s h states o j n ≡ true → (e : ℕ) × Moves s h states o j n e
   unfolding matched
   matched-by n p = let d = any-at (moves s h states o j n) (h .effects) p in (d .0, moves-true s h states o j n (d .0) (d .2))
 
-  by-matched : (n e : ℕ) → Moves s h states o j n e → matched s h states o j n ≡ true
+  pub by-matched : (n e : ℕ) → Moves s h states o j n e → matched s h states o j n ≡ true
   unfolding matched
   by-matched n e m = any-of (moves s h states o j n) (h .effects) e (inside (w .accepted) o (w .exists) e (m .of)) (true-moves s h states o j n e m)
 
   -- each entity that an applicable outcome names is moved by one of its effects
   pub named-moves : applicable s h states o j ≡ true → (n d : ℕ) → Names s h o j n d → (e : ℕ) × Moves s h states o j n e
-  unfolding applicable unblocked
+  unfolding applicable
   named-moves p n d k =
       let q = all-at (unblocked s h states o j) (h .effects) p d (inside (w .accepted) o (w .exists) d (k .of)) in
-      matched-by n (rw (of-outcome n d k, k .entity) at q)
+      matched-by n (rw (k .entity) at (free-matched s h states o j d q (of-outcome n d k)))
 
   -- and an outcome is applicable where that holds
   pub moves-applies : ((n d : ℕ) → Names s h o j n d → (e : ℕ) × Moves s h states o j n e) → applicable s h states o j ≡ true
-  unfolding applicable unblocked
-  moves-applies f = all-of (unblocked s h states o j) (h .effects) (λ e l. go e (bool-cases (ofOutcome s h o j e)))
-    where
-      go : (e : ℕ) → (ofOutcome s h o j e ≡ true) ⊎ (ofOutcome s h o j e ≡ false) → unblocked s h states o j e ≡ true
-      go e (inl t) = let m = f (effect s h e .w0) e (in-outcome e t) in rw (t, by-matched (effect s h e .w0) (m .0) (m .1))
-      go e (inr t) = rw t
+  unfolding applicable
+  moves-applies f =
+      all-of (unblocked s h states o j) (h .effects)
+      (λ e l.
+      matched-free s h states o j e
+      (λ t. let m = f (effect s h e .w0) e (in-outcome e t) in by-matched (effect s h e .w0) (m .0) (m .1)))
 
 -- ---- what changes
 
@@ -142,14 +151,6 @@ module _ {s : List ℤ} {h : Header} {states : List ℤ} {o : ℕ} (w : Ready s 
         go n l (unmoved f q) = rw q (w .lent .each n l)
 
   module _ (wanted : Wanted) where
-    pub performed-in : StatesIn s h (performed s h states o wanted)
-    performed-in = go (chosen s h states o wanted) refl
-      where
-        go : (r : Choice) → chosen s h states o wanted ≡ r → StatesIn s h (performed s h states o wanted)
-        go (Outcome j) p = rw (performed-by s h states o wanted j p) (applied-in j)
-        go Nothing p = rw (performed-none s h states o wanted p) (w .lent)
-        go Several p = rw (performed-several s h states o wanted p) (w .lent)
-
     -- a state changes only along a declared transition that an effect of the chosen outcome names and that starts from the present state
     pub changes : (n : ℕ) → n < h .entities → (getD (performed s h states o wanted) n (pos 0) ≡ getD states n (pos 0) → ⊥)
         → (j : ℕ) × (e : ℕ) × Changed s h states o wanted j n e
@@ -172,5 +173,5 @@ module _ {s : List ℤ} {h : Header} {states : List ℤ} {o : ℕ} (w : Ready s 
 
         go : (r : Choice) → chosen s h states o wanted ≡ r → (j : ℕ) × (e : ℕ) × Changed s h states o wanted j n e
         go (Outcome j) p = along j p (fate j n l)
-        go Nothing p = absurd (f (rw (performed-none s h states o wanted p)))
+        go (Nothing b) p = absurd (f (rw (performed-none s h states o wanted b p)))
         go Several p = absurd (f (rw (performed-several s h states o wanted p)))

@@ -1,5 +1,6 @@
 pub mod LentStates
 pub mod Targets
+pub mod Blockers
 pub mod Blocks
 pub mod Choices
 pub mod OutcomeLoop

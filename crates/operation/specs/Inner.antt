@@ -66,7 +66,7 @@ pub record Shifted (s : List ℤ) (h : Header) (e : ℕ) (states : List ℤ) (mo
 -- the states after a choice
 unfoldable pub after : List ℤ → Header → List ℤ → ℕ → Choice → List ℤ
 after s h states o (Outcome j) = applied s h states o j
-after s h states o Nothing = states
+after s h states o (Nothing n) = states
 after s h states o Several = states
 
 -- the states after operation o
@@ -81,6 +81,21 @@ asks (One k) j = eqb k j
 -- the choice with outcome j, which is applicable, where it is asked for
 unfoldable pub counted : Wanted → ℕ → Choice → Choice
 counted w j c = cond (asks w j) (another j c) c
+
+-- the outcome asked about: the wanted one, or with −1 the outcome numbered 0
+unfoldable pub about : Wanted → ℕ
+about Any = 0
+about (One j) = j
+
+-- the choice with n for its place, where nothing is chosen
+unfoldable pub placed : ℕ → Choice → Choice
+placed n (Nothing k) = Nothing n
+placed n (Outcome j) = Outcome j
+placed n Several = Several
+
+-- what blocks the outcome asked about: k so far, and n where outcome j, which n blocks, is the one
+unfoldable pub noted : ℕ → ℕ → ℕ → ℕ → ℕ
+noted subject j n k = cond (eqb subject j) n k
 
 -- outcome j is asked for and applicable
 unfoldable pub candidate : (ℕ → Bool) → Wanted → ℕ → Bool

@@ -1,11 +1,11 @@
--- 01, "Operation (004)", and 02, CR 1: which outcome is chosen.
+-- 01, "Operation (004)", and 02, CR 1 and CR 2: which outcome is chosen, or what blocks it.
 -- Assumes nothing.
 use Prim.Native.Nat.{ℕ, zero, suc}
 use lib.IntN.{ℤ, negsuc}
 use mathlib.Core.Bool.{Bool, true, not, cond, _&&_, _||_}
 use mathlib.Core.List.{List}
 use lib.Dec.{leb, ltb, eqb}
-use Rattle.tables.specs.Scan.{allBelow, anyBelow}
+use Rattle.tables.specs.Scan.{allBelow, anyBelow, firstFail}
 use Rattle.signed.specs.Words.{num, eqZ}
 use Rattle.words.specs.declared.Record.{Record}
 use Rattle.layout.specs.declared.Header.{Header}
@@ -41,6 +41,16 @@ unblocked s h states o j e = not (ofOutcome s h o j e) || matched s h states o j
 unfoldable pub applicable : List ℤ → Header → List ℤ → ℕ → ℕ → Bool
 applicable s h states o j = allBelow (unblocked s h states o j) (h .effects)
 
+-- ---- 02, CR 2: "say which entity blocked"
+
+-- "that outcome's first effect, in declared order, whose entity has no matching effect in it"; the number of effects where there is none
+unfoldable pub blocking : List ℤ → Header → List ℤ → ℕ → ℕ → ℕ
+blocking s h states o j = firstFail (unblocked s h states o j) 0 (h .effects)
+
+-- "place becomes the entity of" that effect; 0 where there is none
+unfoldable pub blocker : List ℤ → Header → List ℤ → ℕ → ℕ → ℕ
+blocker s h states o j = cond (ltb (blocking s h states o j) (h .effects)) (entityOf (effect s h (blocking s h states o j))) 0
+
 -- ---- 02, CR 1: "a call now carries a wanted outcome, or −1"
 
 -- what a word wants: with −1 any outcome will do
@@ -54,21 +64,22 @@ goodWanted n (One j) = ltb j n
 
 -- one outcome more that is applicable
 unfoldable pub another : ℕ → Choice → Choice
-another j Nothing = Outcome j
+another j (Nothing n) = Outcome j
 another j (Outcome i) = Several
 another j Several = Several
 
--- of the first n outcomes: none that is applicable, the only one, or several
-unfoldable pub only : (ℕ → Bool) → ℕ → Choice
-only applies zero = Nothing
-only applies (suc n) = cond (applies n) (another n (only applies n)) (only applies n)
+-- of the first n outcomes: none that is applicable, the place then being k; the only one; or several
+unfoldable pub only : (ℕ → Bool) → ℕ → ℕ → Choice
+only applies k zero = Nothing k
+only applies k (suc n) = cond (applies n) (another n (only applies k n)) (only applies k n)
 
 -- "Wanted and applicable: it is chosen. Wanted and not applicable: 11. .. With −1 the only applicable outcome is chosen; if there are
--- several, the new refusal 16": 11 exactly where it is Nothing, 16 exactly where it is Several
-unfoldable pub choice : (ℕ → Bool) → ℕ → Wanted → Choice
-choice applies n (One j) = cond (ltb j n && applies j) (Outcome j) Nothing
-choice applies n Any = only applies n
+-- several, the new refusal 16": 11 exactly where it is Nothing, 16 exactly where it is Several. CR 2: 11's place is what blocks the wanted
+-- outcome; "with −1 answered 11, place is the same for the outcome numbered 0"
+unfoldable pub choice : (ℕ → Bool) → (ℕ → ℕ) → ℕ → Wanted → Choice
+choice applies blocks n (One j) = cond (ltb j n && applies j) (Outcome j) (Nothing (blocks j))
+choice applies blocks n Any = only applies (blocks 0) n
 
 -- the choice among an operation's outcomes
 unfoldable pub chosen : List ℤ → Header → List ℤ → ℕ → Wanted → Choice
-chosen s h states o w = choice (applicable s h states o) (outcomes s h o) w
+chosen s h states o w = choice (applicable s h states o) (blocker s h states o) (outcomes s h o) w

@@ -11,7 +11,7 @@ ghost use Rattle.operation.specs.Mask.{inMask, allowed};
 ghost use Rattle.operation.specs.States.{statesFault};
 ghost use Rattle.operation.specs.Outcomes.{starts, wantedOf, goodWanted, another, chosen};
 ghost use Rattle.operation.specs.Changes.{applied};
-ghost use Rattle.operation.specs.Inner.{asks, counted, performed, effectsOf, Read, OutcomeAt, Clear, Collected, Shifted};
+ghost use Rattle.operation.specs.Inner.{asks, about, counted, placed, noted, performed, effectsOf, Read, OutcomeAt, Clear, Collected, Shifted};
 ghost use Rattle.operation.specs.Ready.{Ready};
 use answer::Refusal;
 use answer::Status;
@@ -31,10 +31,11 @@ pub enum Wanted {
     One(usize),
 }
 
-// What an operation comes to: the number of the chosen outcome; none; or several where none is wanted.
+// What an operation comes to: the number of the chosen outcome; none, with the entity that blocks the outcome asked about; or several
+// where none is wanted.
 pub enum Choice {
     Outcome(usize),
-    Nothing,
+    Nothing(usize),
     Several,
 }
 
@@ -178,7 +179,7 @@ fn another(j: usize, choice: Choice) -> Choice
     ensures { λ r. ⌜ r ≡ another j choice ⌝ }
 {
     match choice {
-        Choice::Nothing => Choice::Outcome(j),
+        Choice::Nothing(_) => Choice::Outcome(j),
         Choice::Outcome(_) => Choice::Several,
         Choice::Several => Choice::Several,
     }
@@ -205,6 +206,34 @@ fn counted(wanted: Wanted, j: usize, choice: Choice) -> Choice
     }
 }
 
+// The outcome asked about: the wanted one, or 0 where none is wanted.
+fn about(wanted: Wanted) -> usize
+    ensures { λ r. ⌜ r ≡ about wanted ⌝ }
+{
+    match wanted {
+        Wanted::Any => 0,
+        Wanted::One(j) => j,
+    }
+}
+
+// The choice with the entity that blocks, where nothing is chosen.
+fn placed(n: usize, choice: Choice) -> Choice
+    ensures { λ r. ⌜ r ≡ placed n choice ⌝ }
+{
+    match choice {
+        Choice::Nothing(_) => Choice::Nothing(n),
+        Choice::Outcome(_) => choice,
+        Choice::Several => choice,
+    }
+}
+
+// What blocks the outcome asked about, so far, once entity n is found to block outcome j.
+fn noted(subject: usize, j: usize, n: usize, blocker: usize) -> usize
+    ensures { λ r. ⌜ r ≡ noted subject j n blocker ⌝ }
+{
+    if subject == j { n } else { blocker }
+}
+
 // The chosen outcome. Outcomes ascend along the effects, so those of one outcome stand together and the walk goes along them.
 pub fn choose(s: &[i64], h: Header, states: &[i64], o: Operation, wanted: Wanted) -> Choice
     requires { ⌜ Ready (now s) h (now states) (o .0) ⌝ }
@@ -214,10 +243,12 @@ pub fn choose(s: &[i64], h: Header, states: &[i64], o: Operation, wanted: Wanted
     let outcomes = effects.outcomes;
     let mut at = effects.first;
     let mut j = 0;
-    let mut choice = Choice::Nothing;
+    let mut choice = Choice::Nothing(0);
+    let subject = about(wanted);
+    let mut blocker = 0;
     'outcomes: loop {
         if j == outcomes {
-            break choice;
+            break placed(blocker, choice);
         }
         let mut found = [false; Header::ENTITIES];
         let stop = collect(s, h, states, &mut found, o, at, j);
@@ -226,6 +257,7 @@ pub fn choose(s: &[i64], h: Header, states: &[i64], o: Operation, wanted: Wanted
             let n = effect_word(s, h, d, place::EFFECT_ENTITY);
             if !found[n] {
                 // No effect of this outcome starts from the entity's state: on to the next outcome.
+                blocker = noted(subject, j, n, blocker);
                 at = stop;
                 j += 1;
                 continue 'outcomes;
@@ -283,7 +315,7 @@ pub fn perform(s: &[i64], h: Header, states: &mut [i64], o: Operation, wanted: W
     let choice = choose(s, h, states, o, wanted);
     match choice {
         Choice::Outcome(j) => apply(s, h, states, o, j),
-        Choice::Nothing => {}
+        Choice::Nothing(_) => {}
         Choice::Several => {}
     }
     choice

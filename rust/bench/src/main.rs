@@ -1,6 +1,7 @@
 //! `bench [MILLISECONDS]`: each call on the largest sheet, an eighth of it, the escrow example, and 01's sheet.
 //!
-//! At last runs that are hard where a precondition is worked out again for each step.
+//! At last runs that are hard where a precondition is worked out again for each step, and operations that are refused 11
+//! after every effect was looked at.
 //!
 //! The library and the reference are timed in turns in one process, the best of many rounds counts. Each case is
 //! timed for so many milliseconds (300 unless told). The answers are compared before.
@@ -110,21 +111,62 @@ fn main() {
     for eighths in [1, 2, 4, 8] {
         let (steps, nodes) = (32 * eighths, 128 * eighths);
         let desk = Box::leak(Box::new(Desk::of(&hard_sheet(steps, nodes), 1)));
-        let mut run = cases(desk).into_iter().find(|case| case.name == "run").expect("run is among the calls");
-        let times = measure(&mut run, time);
-        let ratio = times.library / times.reference;
-        println!("| {steps} | {nodes} | {:.2} | {:.2} | {ratio:.2} |", times.library / 1e3, times.reference / 1e3);
+        hard(desk, "run", &format!("{steps} | {nodes}"), time);
     }
+
+    println!("\n## Hard operations: eight outcomes, each blocked by the last entity that it names; refused 11\n");
+    println!("| Entities | Effects | Library, µs | Reference, µs | Ratio |");
+    println!("|---:|---:|---:|---:|---:|");
+    for entities in [4, 8, 16, 32] {
+        let mut desk = Desk::of(&blocked_sheet(entities), 1);
+        (desk.persona, desk.operation, desk.wanted) = (0, 0, -1);
+        desk.states[entities as usize - 1] = 2;
+        hard(Box::leak(Box::new(desk)), "operate", &format!("{entities} | {}", 16 * entities), time);
+    }
+}
+
+/// A line of one call of a desk.
+fn hard(desk: &'static Desk, call: &str, line: &str, time: Duration) {
+    let mut case = cases(desk).into_iter().find(|case| case.name == call).expect("it is among the calls");
+    let times = measure(&mut case, time);
+    let ratio = times.library / times.reference;
+    println!("| {line} | {:.2} | {:.2} | {ratio:.2} |", times.library / 1e3, times.reference / 1e3);
+}
+
+/// Adds a record to a table.
+fn add(sheet: &mut Sheet, kind: usize, words: &[i64]) {
+    let mut record = [0; 8];
+    record[..words.len()].copy_from_slice(words);
+    sheet.tables[kind].push(record);
+}
+
+/// One operation of eight outcomes, each with two effects on each of so many entities, from states 0 and 1 of three.
+fn blocked_sheet(entities: i64) -> Sheet {
+    let mut sheet = Sheet { personas: 1, tables: Default::default() };
+    let mut add = |kind: usize, words: &[i64]| add(&mut sheet, kind, words);
+    add(NODES, &[1, 1]);
+    (0..entities).for_each(|_| add(ENTITIES, &[3, 0]));
+    for entity in 0..entities {
+        add(TRANSITIONS, &[entity, 0, 1]);
+        add(TRANSITIONS, &[entity, 1, 0]);
+    }
+    add(OPERATIONS, &[1, 0, 0, 16 * entities, 8]);
+    for outcome in 0..8 {
+        for entity in 0..entities {
+            add(EFFECTS, &[entity, 1, 0, outcome]);
+            add(EFFECTS, &[entity, 0, 1, outcome]);
+        }
+    }
+    add(FLOWS, &[0, 1]);
+    add(STEPS, &[0, 0, 0, 0, 9]);
+    (0..9).for_each(|_| add(ROUTES, &[1, 0]));
+    sheet
 }
 
 /// A flow of so many steps of one operation, whose precondition is a chain of so many nodes.
 fn hard_sheet(steps: i64, nodes: i64) -> Sheet {
     let mut sheet = Sheet { personas: 1, tables: Default::default() };
-    let mut add = |kind: usize, words: &[i64]| {
-        let mut record = [0; 8];
-        record[..words.len()].copy_from_slice(words);
-        sheet.tables[kind].push(record);
-    };
+    let mut add = |kind: usize, words: &[i64]| add(&mut sheet, kind, words);
     add(FACTS, &[0, 0, 1]);
     add(NODES, &[3, 0]);
     (1..nodes).for_each(|node| add(NODES, &[11, node - 1]));

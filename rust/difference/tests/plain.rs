@@ -96,7 +96,7 @@ fn values(sheet: &Sheet, facts: &[i64], verdicts: &[i64]) -> Vec<i64> {
 
 #[test]
 fn verdicts_runs_and_operations_by_the_definition() {
-    let (mut runs, mut moves, mut several) = (0, 0, 0);
+    let (mut runs, mut moves, mut several, mut blocked) = (0, 0, 0, 0);
     for (sheet, words, mut random) in sheets(2500) {
         let facts: Vec<i64> = (0..sheet.count(FACTS)).map(|fact| sheet.value_of(fact, &mut random)).collect();
         let given = vec![1; facts.len()];
@@ -143,6 +143,7 @@ fn verdicts_runs_and_operations_by_the_definition() {
                     check_operation(&sheet, &of, (what as usize, wanted), persona, &before, &states, answer);
                     moves += (answer.refusal == 0) as usize;
                     several += (answer.refusal == 16) as usize;
+                    blocked += (answer.refusal == 11 && answer.place > 0) as usize;
                     if answer.refusal == 0 {
                         first + answer.value
                     } else {
@@ -165,6 +166,7 @@ fn verdicts_runs_and_operations_by_the_definition() {
     }
     assert!(runs > 1000 && moves > 1000, "{runs} runs, {moves} operations that went through");
     assert!(several > 100, "{several} operations with several applicable outcomes");
+    assert!(blocked > 100, "{blocked} operations blocked by another entity than 0");
 }
 
 /// An operation's answer and states by the definition, and S3a and S4 of what it did.
@@ -181,11 +183,10 @@ fn check_operation(
     let effects = &sheet.tables[EFFECTS][first as usize..(first + count) as usize];
     let of_outcome = |outcome: i64| effects.iter().filter(move |effect| effect[3] == outcome);
     let starts = |effect: &Record| before[effect[0] as usize] == effect[1];
-    let applicable = |outcome: &i64| {
-        of_outcome(*outcome).all(|named| of_outcome(*outcome).any(|other| other[0] == named[0] && starts(other)))
-    };
+    let matched = |named: &Record| of_outcome(named[3]).any(|other| other[0] == named[0] && starts(other));
+    let applicable = |outcome: &i64| of_outcome(*outcome).all(matched);
     let applicable: Vec<i64> = (0..outcomes).filter(applicable).collect();
-    let mut expected = before.to_vec();
+    let (mut expected, mut place) = (before.to_vec(), 0);
     let refusal = if mask >> persona & 1 == 0 {
         9
     } else if of[precondition as usize] == 0 {
@@ -203,9 +204,11 @@ fn check_operation(
         }
         0
     } else {
+        let asked = if wanted == -1 { 0 } else { wanted };
+        place = of_outcome(asked).find(|named| !matched(named)).expect("it is not applicable")[0];
         11
     };
-    assert_eq!((answer.refusal, after), (refusal, &expected[..]));
+    assert_eq!((answer.refusal, answer.place, after), (refusal, place, &expected[..]));
 }
 
 #[test]

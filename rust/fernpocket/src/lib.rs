@@ -68,11 +68,15 @@ pub struct Path {
     pub length: usize,
 }
 
+fn refusal(answer: Answer, wanted: Option<usize>) -> Refusal {
+    Refusal::from_numbers(answer.refusal, answer.place as usize, wanted).expect("a refusal has a number of 1 to 16")
+}
+
 fn accepted(answer: Answer) -> Result<Answer, Refusal> {
     if answer.refusal == 0 {
         return Ok(answer);
     }
-    Err(Refusal::from_numbers(answer.refusal, answer.place as usize).expect("a refusal has a number of 1 to 16"))
+    Err(refusal(answer, None))
 }
 
 fn done(answer: Answer) -> Result<(), Refusal> {
@@ -219,7 +223,10 @@ pub fn verdicts(sheet: &[i64], values: &[i64], given: &[i64], verdicts: &mut [i6
 /// assert_eq!(operate(&sheet, &[1], &[1], &mut states, 0, 0, None), Err(Refusal::ManyOutcomes));
 /// assert_eq!(operate(&sheet, &[1], &[1], &mut states, 0, 0, Some(1)), Ok(1));
 /// assert_eq!(states, [2]);
-/// assert_eq!(operate(&sheet, &[1], &[1], &mut states, 0, 0, Some(1)), Err(Refusal::NoOutcome));
+/// // Neither applies to state 2: entity 0 is in the way.
+/// let blocked = operate(&sheet, &[1], &[1], &mut states, 0, 0, Some(1)).unwrap_err();
+/// assert_eq!(blocked, Refusal::NoOutcome { entity: 0, wanted: Some(1) });
+/// assert_eq!(blocked.to_string(), "refused 11 at 0: entity 0 is in no state that outcome 1 starts from");
 /// # Ok::<(), fernpocket::Refusal>(())
 /// ```
 pub fn operate(
@@ -231,7 +238,8 @@ pub fn operate(
     operation: usize,
     wanted: Option<usize>,
 ) -> Result<usize, Refusal> {
-    value(raw::operate(sheet, values, given, states, number(persona), number(operation), wanted_word(wanted)))
+    let answer = raw::operate(sheet, values, given, states, number(persona), number(operation), wanted_word(wanted));
+    value(answer).map_err(|_| refusal(answer, wanted))
 }
 
 /// Runs a flow: changes the states, and puts the path in the buffer. For each step of the flow `wanted` has the outcome

@@ -14,6 +14,9 @@ use std::fmt;
 /// assert_eq!(refusal, Refusal::Header);
 /// assert_eq!((refusal.number(), refusal.place()), (1, 0));
 /// assert_eq!(refusal.to_string(), "refused 1 at 0: the header or the sheet's length is wrong");
+///
+/// let blocked = Refusal::NoOutcome { entity: 3, wanted: Some(1) };
+/// assert_eq!(blocked.to_string(), "refused 11 at 3: entity 3 is in no state that outcome 1 starts from");
 /// ```
 #[derive(Clone, Copy, Debug, PartialEq, Eq, Hash, PartialOrd, Ord)]
 pub enum Refusal {
@@ -38,7 +41,13 @@ pub enum Refusal {
     /// 10: the operation's precondition is false.
     Precondition,
     /// 11: the wanted outcome does not apply to the present states; where none is wanted, none of the operation's does.
-    NoOutcome,
+    NoOutcome {
+        /// The entity that blocks the wanted outcome or, where none is wanted, outcome 0: that of its first effect, in the
+        /// sheet's order, whose entity is in no state from which an effect of that outcome starts.
+        entity: usize,
+        /// The outcome that the call wanted.
+        wanted: Option<usize>,
+    },
     /// 12: the buffer does not begin with a path of the flow.
     NotPath,
     /// 13: no path follows the one in the buffer.
@@ -52,8 +61,9 @@ pub enum Refusal {
 }
 
 impl Refusal {
-    /// The refusal with this number and place; None where there is no such number.
-    pub fn from_numbers(number: i64, place: usize) -> Option<Refusal> {
+    /// The refusal with this number and place, of a call that wanted this outcome of an operation or, as calls do that
+    /// perform no operation, none; None where there is no such number.
+    pub fn from_numbers(number: i64, place: usize, wanted: Option<usize>) -> Option<Refusal> {
         Some(match number {
             1 => Refusal::Header,
             2 => Refusal::Group,
@@ -65,7 +75,7 @@ impl Refusal {
             8 => Refusal::State(place),
             9 => Refusal::Persona,
             10 => Refusal::Precondition,
-            11 => Refusal::NoOutcome,
+            11 => Refusal::NoOutcome { entity: place, wanted },
             12 => Refusal::NotPath,
             13 => Refusal::LastPath,
             14 => Refusal::Line(place),
@@ -88,7 +98,7 @@ impl Refusal {
             Refusal::State(_) => 8,
             Refusal::Persona => 9,
             Refusal::Precondition => 10,
-            Refusal::NoOutcome => 11,
+            Refusal::NoOutcome { .. } => 11,
             Refusal::NotPath => 12,
             Refusal::LastPath => 13,
             Refusal::Line(_) => 14,
@@ -104,12 +114,14 @@ impl Refusal {
             | Refusal::FactValue(place)
             | Refusal::FactAbsent(place)
             | Refusal::State(place)
+            | Refusal::NoOutcome { entity: place, .. }
             | Refusal::Line(place) => place,
             _ => 0,
         }
     }
 
-    /// What is wrong, in words, without number and place. The C example prints the same words.
+    /// What is wrong, in words, without number and place. The C example has the same words. Of 11 both print more: which
+    /// entity, and which outcome.
     pub fn words(self) -> &'static str {
         match self {
             Refusal::Header => "the header or the sheet's length is wrong",
@@ -124,7 +136,7 @@ impl Refusal {
             Refusal::State(_) => "the state of this entity is not one of its states",
             Refusal::Persona => "the persona may not perform the operation",
             Refusal::Precondition => "the operation's precondition is false",
-            Refusal::NoOutcome => "no outcome, or not the wanted one, applies to the present states",
+            Refusal::NoOutcome { .. } => "this entity is in no state that the outcome starts from",
             Refusal::NotPath => "the buffer does not begin with a path of the flow",
             Refusal::LastPath => "no path follows the one in the buffer",
             Refusal::Line(_) => "this line is bad (line place + 1, counted from 1)",
@@ -136,7 +148,16 @@ impl Refusal {
 
 impl fmt::Display for Refusal {
     fn fmt(&self, f: &mut fmt::Formatter) -> fmt::Result {
-        write!(f, "refused {} at {}: {}", self.number(), self.place(), self.words())
+        write!(f, "refused {} at {}: ", self.number(), self.place())?;
+        match self {
+            Refusal::NoOutcome { entity, wanted: Some(outcome) } => {
+                write!(f, "entity {entity} is in no state that outcome {outcome} starts from")
+            }
+            Refusal::NoOutcome { entity, wanted: None } => {
+                write!(f, "no outcome applies, and entity {entity} is in no state that outcome 0 starts from")
+            }
+            _ => f.write_str(self.words()),
+        }
     }
 }
 

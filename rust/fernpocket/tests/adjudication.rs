@@ -9,6 +9,7 @@ const DECIDE_CLAIM: usize = 0;
 const APPROVED: usize = 0;
 const REJECTED: usize = 1;
 const ADJUDICATE: usize = 0;
+const CLAIM: usize = 0;
 /// The states of the claim.
 const IN_REVIEW: i64 = 0;
 const IS_REJECTED: i64 = 2;
@@ -36,9 +37,10 @@ fn the_adjudicator_says_no() {
     assert_eq!(decide(&mut states, ADJUDICATOR, Some(REJECTED)), Ok(REJECTED));
     assert_eq!(states, [IS_REJECTED]);
 
-    // It is decided: neither applies any more.
-    assert_eq!(decide(&mut states, ADJUDICATOR, Some(APPROVED)), Err(Refusal::NoOutcome));
-    assert_eq!(decide(&mut states, ADJUDICATOR, None), Err(Refusal::NoOutcome));
+    // It is decided: neither applies any more, and it is the claim that stands in the way.
+    for wanted in [Some(APPROVED), Some(REJECTED), None] {
+        assert_eq!(decide(&mut states, ADJUDICATOR, wanted), Err(Refusal::NoOutcome { entity: CLAIM, wanted }));
+    }
     assert_eq!(decide(&mut states, ADJUDICATOR, Some(2)), Err(Refusal::Missing));
 }
 

@@ -6,7 +6,7 @@ use std::fs;
 use std::path::Path;
 
 fn all() -> impl Iterator<Item = Refusal> {
-    (1..=16).map(|number| Refusal::from_numbers(number, 0).unwrap())
+    (1..=16).map(|number| Refusal::from_numbers(number, 0, None).unwrap())
 }
 
 /// A file of the repository.
@@ -17,7 +17,7 @@ fn source(name: &str) -> String {
 
 /// A name as it stands in the Rattle enum and here, and whether it has a place.
 fn name(refusal: Refusal) -> (String, bool) {
-    match format!("{refusal:?}").split_once('(') {
+    match format!("{refusal:?}").split_once(['(', ' ']) {
         Some((name, _)) => (name.to_owned(), true),
         None => (format!("{refusal:?}"), false),
     }
@@ -27,12 +27,12 @@ fn name(refusal: Refusal) -> (String, bool) {
 fn numbers_and_places() {
     for (index, refusal) in all().enumerate() {
         assert_eq!(refusal.number() as usize, index + 1);
-        let with_place = Refusal::from_numbers(index as i64 + 1, 7).unwrap();
+        let with_place = Refusal::from_numbers(index as i64 + 1, 7, Some(2)).unwrap();
         assert_eq!(with_place.number(), refusal.number());
         assert_eq!(with_place.place(), if name(refusal).1 { 7 } else { 0 });
     }
     for number in [i64::MIN, -1, 0, 17, i64::MAX] {
-        assert_eq!(Refusal::from_numbers(number, 0), None);
+        assert_eq!(Refusal::from_numbers(number, 0, None), None);
     }
 }
 
@@ -40,6 +40,16 @@ fn numbers_and_places() {
 fn as_an_error() {
     let error: Box<dyn Error> = Box::new(check(&[]).unwrap_err());
     assert_eq!(error.to_string(), "refused 1 at 0: the header or the sheet's length is wrong");
+}
+
+#[test]
+fn which_entity_blocked() {
+    let words = |wanted| Refusal::from_numbers(11, 3, wanted).unwrap().to_string();
+    assert_eq!(words(Some(1)), "refused 11 at 3: entity 3 is in no state that outcome 1 starts from");
+    assert_eq!(
+        words(None),
+        "refused 11 at 3: no outcome applies, and entity 3 is in no state that outcome 0 starts from"
+    );
 }
 
 #[test]

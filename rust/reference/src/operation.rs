@@ -31,35 +31,38 @@ pub fn wanted(sheet: &Sheet, operation: usize, word: i64) -> Result<Option<usize
     }
 }
 
-/// The entities of an outcome's effects that have an effect from their present state, as a mask, if all of them have.
-fn applicable(effects: &[Record], states: &[i64]) -> Option<u32> {
-    let (mut named, mut ready) = (0u32, 0u32);
+/// The entities of an outcome's effects that have an effect from their present state, as a mask, if all of them have;
+/// else the entity of the first effect whose entity has none.
+fn applicable(effects: &[Record], states: &[i64]) -> Result<u32, usize> {
+    let mut ready = 0u32;
     for [entity, from, ..] in effects {
-        named |= 1 << entity;
         if states[*entity as usize] == *from {
             ready |= 1 << entity;
         }
     }
-    (named == ready).then_some(ready)
+    match effects.iter().find(|[entity, ..]| ready >> entity & 1 == 0) {
+        None => Ok(ready),
+        Some([entity, ..]) => Err(*entity as usize),
+    }
 }
 
 /// Performs the wanted outcome, or the only applicable one, and answers its number. 11 where it is not applicable, or
-/// none is; 16 where none is wanted and several are.
+/// none is, at the entity that blocks it, or outcome 0; 16 where none is wanted and several are.
 pub fn perform(sheet: &Sheet, operation: usize, wanted: Option<usize>, states: &mut [i64]) -> Result<usize, Refused> {
     let effects = &sheet.effects[sheet.group_of_operation(operation)];
-    let mut chosen = None;
+    let (mut chosen, mut blocker) = (None, 0);
     for (outcome, effects) in effects.chunk_by(|a, b| a[3] == b[3]).enumerate() {
         if wanted.is_some_and(|wanted| wanted != outcome) {
             continue;
         }
-        if let Some(ready) = applicable(effects, states) {
-            if chosen.is_some() {
-                return Err(Refused::plain(16));
-            }
-            chosen = Some((outcome, effects, ready));
+        match applicable(effects, states) {
+            Ok(_) if chosen.is_some() => return Err(Refused::plain(16)),
+            Ok(ready) => chosen = Some((outcome, effects, ready)),
+            Err(entity) if outcome == wanted.unwrap_or(0) => blocker = entity,
+            Err(_) => {}
         }
     }
-    let (outcome, effects, mut ready) = chosen.ok_or(Refused::plain(11))?;
+    let (outcome, effects, mut ready) = chosen.ok_or(Refused::at(11, blocker))?;
     // All at once: an entity that has moved is not moved again.
     for [entity, from, to, ..] in effects {
         if ready >> entity & 1 == 1 && states[*entity as usize] == *from {

@@ -406,11 +406,14 @@ fn outcomes_are_chosen_and_applied_at_once() {
         ([1, 2, 3], -1, refused(16, 0), [1, 2, 3]),
         ([1, 2, 3], 0, good(0, 0), [3, 0, 3]),
         ([1, 2, 3], 1, good(1, 0), [1, 2, 2]),
-        // The wanted one is not, whether or not the other is.
-        ([0, 2, 0], 1, refused(11, 0), [0, 2, 0]),
-        ([0, 1, 3], 0, refused(11, 0), [0, 1, 3]),
-        ([0, 1, 0], 0, refused(11, 0), [0, 1, 0]),
-        ([0, 1, 0], -1, refused(11, 0), [0, 1, 0]),
+        // The wanted one is not, whether or not the other is; or none is. Its first effect whose entity has no match.
+        ([0, 2, 0], 1, refused(11, 2), [0, 2, 0]),
+        ([0, 1, 3], 0, refused(11, 1), [0, 1, 3]),
+        ([0, 1, 0], 0, refused(11, 1), [0, 1, 0]),
+        ([0, 1, 0], -1, refused(11, 1), [0, 1, 0]),
+        ([3, 1, 3], 0, refused(11, 0), [3, 1, 3]),
+        ([2, 2, 0], -1, refused(11, 0), [2, 2, 0]),
+        ([2, 2, 0], 1, refused(11, 2), [2, 2, 0]),
         // Not an outcome: 5, before the states are judged.
         ([0, 2, 0], 2, refused(5, 0), [0, 2, 0]),
         ([0, 2, 0], -2, refused(5, 0), [0, 2, 0]),

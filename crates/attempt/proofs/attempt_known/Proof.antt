@@ -21,11 +21,11 @@ perform-requires c κs = search needs
 enum-known-j : tie.Need-enum-known-j
 enum-known-j c = search needs
 
+enum-known-n : tie.Need-enum-known-n
+enum-known-n c = search needs
+
 enum-told : tie.Need-enum-told
 enum-told c = search needs
-
-enum-told-2 : tie.Need-enum-told-2
-enum-told-2 c = search needs
 
 same-length : tie.Need-same-length
 same-length c = search needs
@@ -44,12 +44,12 @@ same-length-2 c = search needs
 
 returns-4 : tie.Need-returns-4
 returns-4 c =
-    let at-perform = c .before .before .before in
+    let at-perform = c .before .before .before .before in
     let at-if2 = at-perform .before .before in
     let at-if1 = at-if2 .before in
     let at-allows = at-if1 .before in
     at-nothing _ _ _ _ _ _ _ (at-allows .allows .ensures) (at-if1 .if1 .left) (at-if2 .if2 .left) (at-perform .perform .ensures .0)
-    (at-perform .perform .ensures .1) (c .enum-told .given .1)
+    (at-perform .perform .ensures .1) _ (c .before .n .given .1)
 
 same-length-3 : tie.Need-same-length-3
 same-length-3 c = search needs
@@ -61,7 +61,7 @@ returns-5 c =
     let at-if1 = at-if2 .before in
     let at-allows = at-if1 .before in
     at-several _ _ _ _ _ _ _ (at-allows .allows .ensures) (at-if1 .if1 .left) (at-if2 .if2 .left) (at-perform .perform .ensures .0)
-    (at-perform .perform .ensures .1) (c .enum-told2 .given .1)
+    (at-perform .perform .ensures .1) (c .enum-told .given .1)
 
 pub attempt-known-spec : {M : Type 1} → statement M
 attempt-known-spec =
@@ -72,8 +72,8 @@ attempt-known-spec =
     returns-2
     perform-requires
     enum-known-j
+    enum-known-n
     enum-told
-    enum-told-2
     same-length
     returns-3
     same-length-2

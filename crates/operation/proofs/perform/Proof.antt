@@ -32,7 +32,7 @@ same-length-2 : tie.Need-same-length-2
 same-length-2 c = search needs
 
 returns-2 : tie.Need-returns-2
-returns-2 c = with-none _ _ _ _ _ _ (c .enum-told .given .1) (c .before .before .choose .ensures)
+returns-2 c = with-none _ _ _ _ _ _ _ (c .enum-told .given .1) (c .before .before .choose .ensures)
 
 same-length-3 : tie.Need-same-length-3
 same-length-3 c = search needs
