@@ -2,7 +2,7 @@
 -- Assumes nothing.
 use mathlib.Core.Path.{_≡_, refl}
 use mathlib.Core.List.{[]}
-use Rattle.signed.specs.Compare.{holds, canHold, canFail}
+use Rattle.signed.specs.Compare.{holds, somePair, canHold, canFail}
 use Rattle.signed.specs.Words.{eqZ, within, bounded, num, minZ, maxZ}
 use Rattle.words.specs.Record.{recordAt, wordsAt, numbersOf, unused}
 use Rattle.tables.specs.Scan.{allBelow, anyBelow, sumBelow, firstFail}
@@ -10,7 +10,7 @@ use Rattle.tables.specs.Table.{grown, entry}
 use Rattle.layout.specs.Groups.{goodGroup, goodGroups}
 use Rattle.layout.specs.Header.{headerOf, inLimits, goodFrame, goodHeader}
 use Rattle.tables.specs.Lists.{has, allOf, distinct, joined as joined-lists, pick}
-use Rattle.item.specs.Items.{small}
+use Rattle.item.specs.Items.{small, multiple}
 use Rattle.node.specs.FactTypes.{factTypeOf}
 use Rattle.node.specs.Rows.{rowOf, fits}
 use Rattle.records.specs.Accept.{tablesOf, goodIn, firstBad, checked}
@@ -43,15 +43,15 @@ use Rattle.calls.specs.Lists.{publicCall, publicCalls}
 use Rattle.reach.specs.Inner.{settled, nextOpen}
 use Rattle.reach.specs.Moves.{leaves}
 use Rattle.reach.specs.Reached.{enters, round, flagged, maskBelow, reachable}
-use Rattle.causes.specs.Causes.{effectPasses}
-use Rattle.calls.specs.Reports.{reportRungs}
+use Rattle.causes.specs.Causes.{effectPasses, someEffect, canBeTrue, admissible}
+use Rattle.calls.specs.Reports.{stateExists, reportRungs}
 use Rattle.decimal.specs.Decimal.{digitsIn, digits, sign, decimal, hasText, magnitude, value}
 use Rattle.text.specs.Calls.{before, judged as judged-text}
 use Rattle.text.specs.Lines.{all, join, line, goodRow, rows, rowsOf, textOf, joined, cut, linesOf, numbers, wordsOf, same as same-text, goodLine}
 use Rattle.path_lines.specs.Output.{refusedLine, pathLine, flowLines, flowsLines, sheetLines, textCount, wordsEntrance, entrance, written, output}
-use Rattle.cases.specs.Sheets.{whole, sixRoutes, thirdOutcome, sumWith, threeEntities}
-use Rattle.cases.specs.CaseTable.{row, same, wrong, listed, ranFrom, operatedFrom, operatedOnThree, wantedCases, blockedCases, judged, assembledWith, cases, wrote}
+use Rattle.cases.specs.Sheets.{whole, sixRoutes, thirdOutcome, sumWith, threeEntities, productIs}
+use Rattle.cases.specs.CaseTable.{row, same, wrong, listed, ranFrom, operatedFrom, operatedOnThree, productMayBe, operatedWith, wantedCases, blockedCases, productCases, judged, assembledWith, cases, wrote}
 
 pub none-wrong : wrong cases ≡ []
-unfolding holds canHold canFail eqZ within bounded num minZ maxZ recordAt wordsAt numbersOf unused allBelow anyBelow sumBelow firstFail grown entry goodGroup goodGroups headerOf inLimits goodFrame goodHeader has allOf distinct joined-lists pick small factTypeOf rowOf fits tablesOf goodIn firstBad checked goodEntity goodChange goodTransition sameChange declared goodDefault agree goodFact goodFlow goodOperationStep goodBranchStep goodStep flowOf stepOf goodRouteOf goodRoute namedByRules namedByOperations namedBySteps goodRoot itemStep itemOf treeStep treeOf namedByNodes goodChildren goodNode goodMask goodOperation operationOf goodOutcome sameSource goodEffectOf goodEffect citesLower goodRule valueTaken assembled factFault firstRefused factsFault valueStep valueOf verdictsTo verdictsOf mover newState applied allowed ofOutcome starts moves matched unblocked applicable blocking blocker wantedOf goodWanted another only choice chosen stateIn firstStray statesFault attemptAnswer attempted statesAfter attemptedStates begins headOf following laid firstWalk firstLaid answerOf bufferOf nextWalk nextLaid greatest depth firstRouteOf routesOf ends target lastOf terminal onward inTurn pathsFrom paths path started taken-listing wantedAt outcomesAt goodWord goodWords answerRoute branchRoute routeTaken statesThen begun stepped runOn ran ranWalk ranPath ranStates then unless reached by climb assembleRungs wantedExists operateRungs stepsOr runRungs flowRungs publicCall publicCalls settled nextOpen leaves enters round flagged maskBelow reachable effectPasses reportRungs whole sixRoutes thirdOutcome sumWith threeEntities row same wrong listed ranFrom operatedFrom operatedOnThree wantedCases blockedCases judged assembledWith cases opened digitsIn digits sign decimal hasText magnitude value before judged-text all join line goodRow rows rowsOf textOf joined cut linesOf numbers wordsOf same-text goodLine refusedLine pathLine flowLines flowsLines sheetLines textCount wordsEntrance entrance written output wrote
+unfolding holds somePair canHold canFail eqZ within bounded num minZ maxZ recordAt wordsAt numbersOf unused allBelow anyBelow sumBelow firstFail grown entry goodGroup goodGroups headerOf inLimits goodFrame goodHeader has allOf distinct joined-lists pick small multiple factTypeOf rowOf fits tablesOf goodIn firstBad checked goodEntity goodChange goodTransition sameChange declared goodDefault agree goodFact goodFlow goodOperationStep goodBranchStep goodStep flowOf stepOf goodRouteOf goodRoute namedByRules namedByOperations namedBySteps goodRoot itemStep itemOf treeStep treeOf namedByNodes goodChildren goodNode goodMask goodOperation operationOf goodOutcome sameSource goodEffectOf goodEffect citesLower goodRule valueTaken assembled factFault firstRefused factsFault valueStep valueOf verdictsTo verdictsOf mover newState applied allowed ofOutcome starts moves matched unblocked applicable blocking blocker wantedOf goodWanted another only choice chosen stateIn firstStray statesFault attemptAnswer attempted statesAfter attemptedStates begins headOf following laid firstWalk firstLaid answerOf bufferOf nextWalk nextLaid greatest depth firstRouteOf routesOf ends target lastOf terminal onward inTurn pathsFrom paths path started taken-listing wantedAt outcomesAt goodWord goodWords answerRoute branchRoute routeTaken statesThen begun stepped runOn ran ranWalk ranPath ranStates then unless reached by climb assembleRungs wantedExists operateRungs stepsOr runRungs flowRungs publicCall publicCalls settled nextOpen leaves enters round flagged maskBelow reachable effectPasses someEffect canBeTrue admissible stateExists reportRungs whole sixRoutes thirdOutcome sumWith threeEntities productIs row same wrong listed ranFrom operatedFrom operatedOnThree productMayBe operatedWith wantedCases blockedCases productCases judged assembledWith cases opened digitsIn digits sign decimal hasText magnitude value before judged-text all join line goodRow rows rowsOf textOf joined cut linesOf numbers wordsOf same-text goodLine refusedLine pathLine flowLines flowsLines sheetLines textCount wordsEntrance entrance written output wrote
 none-wrong = refl

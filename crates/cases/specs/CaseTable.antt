@@ -3,9 +3,9 @@
 use mathlib.Core.Bool.{Bool, true, false, _&&_}
 use mathlib.Core.List.{List, [], _∷_, _++_, map}
 use Prim.Native.Nat.{ℕ}
-use lib.IntN.{ℤ, pos, negsuc}
+use lib.IntN.{ℤ, pos, negsuc, negℤ}
 use lib.ListN.{replicate}
-use Rattle.signed.specs.Words.{eqZ}
+use Rattle.signed.specs.Words.{big, eqZ}
 use Rattle.answer.specs.declared.Answer.{Answer}
 use Rattle.answer.specs.Answers.{statusAnswer, countAnswer, walkAnswer}
 use Rattle.records.specs.Accept.{checked}
@@ -15,8 +15,8 @@ use Rattle.calls.specs.Flows.{runAnswer, runPath, runStates}
 use Rattle.calls.specs.Lists.{publicCall, publicCalls}
 use Rattle.text.specs.Lines.{textOf}
 use Rattle.path_lines.specs.Output.{output}
-use Rattle.calls.specs.Reports.{reachableAnswer, depthAnswer}
-use Rattle.cases.specs.Sheets.{whole, sixRoutes, thirdOutcome, sumWith, threeEntities}
+use Rattle.calls.specs.Reports.{reachableAnswer, admissibleAnswer, depthAnswer}
+use Rattle.cases.specs.Sheets.{whole, sixRoutes, thirdOutcome, sumWith, threeEntities, productIs}
 
 -- a case by its number: the row that the definitions give, and the row that the papers give
 pub record Case : Type 0 where
@@ -40,6 +40,9 @@ wrong [] = []
 wrong (c ∷ cs) = elim (same (c .got) (c .want)) [ true ↦ wrong cs | false ↦ c .number ∷ wrong cs ]
 
 -- ---- the calls
+
+abbrev minus : ℕ → ℤ
+minus n = negℤ (pos n)
 
 -- a path buffer that holds rubbish
 abbrev pub rubbish : List ℕ
@@ -74,6 +77,18 @@ operatedOnThree a b c w =
     let states = pos a ∷ pos b ∷ pos c ∷ [] in
     row (countAnswer (operateAnswer threeEntities [] [] states (pos 0) (pos 0) w)) (operateStates threeEntities [] [] states (pos 0) (pos 0) w) []
 
+-- S3a: whether the product of a fact in low..high by n may be v
+unfoldable pub productMayBe : ℤ → ℤ → ℤ → ℤ → List ℤ
+productMayBe low high n v = row (countAnswer (admissibleAnswer (productIs low high n v) (pos 0) (pos 0) (pos 0) (pos 0))) [] []
+
+-- the operation where the fact, in −3..5, is x, and its product by −2 has to be v
+unfoldable pub operatedWith : ℤ → ℤ → List ℤ
+operatedWith x v =
+    let s = productIs (minus 3) (pos 5) (minus 2) v in
+    let one = pos 1 ∷ [] in
+    let states = pos 0 ∷ [] in
+    row (countAnswer (operateAnswer s (x ∷ []) one states (pos 0) (pos 0) (negsuc 0))) (operateStates s (x ∷ []) one states (pos 0) (pos 0) (negsuc 0)) []
+
 unfoldable pub judged : List ℤ → List ℤ
 judged s = row (statusAnswer (checked s)) [] []
 
@@ -87,6 +102,29 @@ wrote s = map pos (output (textOf s))
 
 -- ---- the table
 
+-- 02, CR 3, numbered 13: "range −3..5 by −2 gives −10..6; by 0 gives 0..0". 7 × 142,857,143 is M + 1
+unfoldable pub productCases : List Case
+productCases =
+    record { number = 13; got = productMayBe (minus 3) (pos 5) (minus 2) (minus 11); want = 0 ∷ 0 ∷ 0 ∷ 0 ∷ [] }
+    ∷ record { number = 13; got = productMayBe (minus 3) (pos 5) (minus 2) (minus 10); want = 0 ∷ 0 ∷ 1 ∷ 0 ∷ [] }
+    ∷ record { number = 13; got = productMayBe (minus 3) (pos 5) (minus 2) (pos 6); want = 0 ∷ 0 ∷ 1 ∷ 0 ∷ [] }
+    ∷ record { number = 13; got = productMayBe (minus 3) (pos 5) (minus 2) (pos 7); want = 0 ∷ 0 ∷ 0 ∷ 0 ∷ [] }
+    ∷ record { number = 13; got = productMayBe (minus 3) (pos 5) (pos 0) (minus 1); want = 0 ∷ 0 ∷ 0 ∷ 0 ∷ [] }
+    ∷ record { number = 13; got = productMayBe (minus 3) (pos 5) (pos 0) (pos 0); want = 0 ∷ 0 ∷ 1 ∷ 0 ∷ [] }
+    ∷ record { number = 13; got = productMayBe (minus 3) (pos 5) (pos 0) (pos 1); want = 0 ∷ 0 ∷ 0 ∷ 0 ∷ [] }
+    ∷ record { number = 13; got = productMayBe (minus 1) (pos 1) (minus big) (minus big); want = 0 ∷ 0 ∷ 1 ∷ 0 ∷ [] }
+    ∷ record { number = 13; got = productMayBe (minus 1) (pos 1) (minus big) (pos big); want = 0 ∷ 0 ∷ 1 ∷ 0 ∷ [] }
+    ∷ record { number = 13; got = productMayBe (pos 0) (pos 1) (minus big) (pos 1); want = 0 ∷ 0 ∷ 0 ∷ 0 ∷ [] }
+    ∷ record { number = 13; got = judged (productIs (pos 0) (pos 142_857_142) (minus 7) (pos 0)); want = 0 ∷ 0 ∷ 0 ∷ 0 ∷ [] }
+    ∷ record { number = 13; got = judged (productIs (pos 0) (pos 142_857_143) (minus 7) (pos 0)); want = 3 ∷ 2 ∷ 0 ∷ 0 ∷ [] }
+    ∷ record { number = 13; got = judged (productIs (minus 142_857_142) (pos 0) (minus 7) (pos 0)); want = 0 ∷ 0 ∷ 0 ∷ 0 ∷ [] }
+    ∷ record { number = 13; got = judged (productIs (minus 142_857_143) (pos 0) (minus 7) (pos 0)); want = 3 ∷ 2 ∷ 0 ∷ 0 ∷ [] }
+    ∷ record { number = 13; got = judged (productIs (pos 0) (pos 0) (minus 1_000_000_001) (pos 0)); want = 3 ∷ 2 ∷ 0 ∷ 0 ∷ [] }
+    ∷ record { number = 13; got = operatedWith (pos 5) (minus 10); want = 0 ∷ 0 ∷ 0 ∷ 0 ∷ 0 ∷ [] }
+    ∷ record { number = 13; got = operatedWith (minus 3) (pos 6); want = 0 ∷ 0 ∷ 0 ∷ 0 ∷ 0 ∷ [] }
+    ∷ record { number = 13; got = operatedWith (pos 3) (pos 6); want = 10 ∷ 0 ∷ 0 ∷ 0 ∷ 0 ∷ [] }
+    ∷ []
+
 -- 02, CR 2, numbered 12: the first entity, in the effects' order, that blocks the wanted outcome, or with −1 outcome 0
 unfoldable pub blockedCases : List Case
 blockedCases =
@@ -97,7 +135,7 @@ blockedCases =
     ∷ record { number = 12; got = operatedOnThree 0 0 1 (pos 1); want = 11 ∷ 0 ∷ 0 ∷ 0 ∷ 0 ∷ 0 ∷ 1 ∷ [] }
     ∷ record { number = 12; got = operatedOnThree 0 1 1 (negsuc 0); want = 11 ∷ 2 ∷ 0 ∷ 0 ∷ 0 ∷ 1 ∷ 1 ∷ [] }
     ∷ record { number = 12; got = operatedOnThree 0 1 0 (negsuc 0); want = 0 ∷ 0 ∷ 0 ∷ 0 ∷ 1 ∷ 0 ∷ 1 ∷ [] }
-    ∷ []
+    ∷ productCases
 
 -- 02, CR 1, numbered 11: both outcomes start from state 0, and none from state 1
 unfoldable pub wantedCases : List Case

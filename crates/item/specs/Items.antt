@@ -2,6 +2,7 @@
 -- Assumes nothing.
 use Prim.Native.Nat.{ℕ}
 use lib.IntN.{ℤ, pos, _+ℤ_, _-ℤ_, _*ℤ_}
+use lib.Signed.{ltZ}
 use mathlib.Core.Bool.{Bool, cond, _&&_}
 use Rattle.signed.specs.Words.{bounded, minZ, maxZ}
 use Rattle.signed.specs.Compare.{canHold, canFail}
@@ -26,9 +27,10 @@ sum x y = span (x .sort) (x .low +ℤ y .low) (x .high +ℤ y .high)
 abbrev pub difference : Item → Item → Item
 difference x y = span (x .sort) (x .low -ℤ y .high) (x .high -ℤ y .low)
 
--- product by n: low×n..high×n
-abbrev pub multiple : ℤ → Item → Item
-multiple n x = span (x .sort) (x .low *ℤ n) (x .high *ℤ n)
+-- product by n: low×n..high×n, and for n < 0 high×n..low×n
+unfoldable pub multiple : ℤ → Item → Item
+multiple n x =
+    cond (ltZ n (pos 0)) (span (x .sort) (x .high *ℤ n) (x .low *ℤ n)) (span (x .sort) (x .low *ℤ n) (x .high *ℤ n))
 
 -- comparison: includes 1 if some pair of values from the two ranges satisfies it, and 0 if some pair does not
 abbrev pub compared : ℕ → Item → Item → Item

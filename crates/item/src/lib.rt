@@ -1,6 +1,7 @@
 // A type with a range of values, and the range of each operator from those of its operands.
 ghost use mathlib.Core.Path.{_≡_};
 ghost use mathlib.Core.Bool.{true, cond};
+ghost use lib.IntN.{_*ℤ_};
 ghost use Rattle.signed.specs.Words.{bounded};
 ghost use Rattle.item.specs.Items as items;
 ghost use Rattle.item.specs.Inner.{Small};
@@ -53,11 +54,23 @@ pub fn difference(x: Item, y: Item) -> Item
     span(x.sort, minus(x.low, y.high), minus(x.high, y.low))
 }
 
+// The range from a×n to b×n.
+fn scaled(sort: usize, a: i64, b: i64, n: i64) -> Item
+    requires { ⌜ (bounded a ≡ true) × (bounded b ≡ true) × (bounded n ≡ true) ⌝ }
+    ensures { λ r. ⌜ r ≡ items.span sort (a *ℤ n) (b *ℤ n) ⌝ }
+{
+    span(sort, times(a, n), times(b, n))
+}
+
 pub fn multiple(n: i64, x: Item) -> Item
     requires { ⌜ (bounded n ≡ true) × Small x ⌝ }
     ensures { λ r. ⌜ r ≡ items.multiple n x ⌝ }
 {
-    span(x.sort, times(x.low, n), times(x.high, n))
+    if n < 0 {
+        scaled(x.sort, x.high, x.low, n)
+    } else {
+        scaled(x.sort, x.low, x.high, n)
+    }
 }
 
 pub fn compared(op: usize, x: Item, y: Item) -> Item

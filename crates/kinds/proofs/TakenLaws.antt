@@ -4,14 +4,13 @@ use mathlib.Core.Path.{_≡_}
 use mathlib.Core.Bool.{true, _&&_}
 use Prim.Native.Nat.{ℕ, _≤_}
 use native.Mathlib.Omega.{arith}
-use lib.IntN.{ℤ, pos}
+use lib.IntN.{ℤ}
 use lib.Dec.{leb, eqb}
 use borrow.Author.Tests.{leb-true}
 use Rattle.tables.proofs.Bools.{and-left}
-use Rattle.signed.specs.Words.{num, within, big, bounded}
+use Rattle.signed.specs.Words.{num, within, bounded}
 use Rattle.node.specs.declared.Given.{Given}
 use Rattle.node.specs.Rows.{literal, product, rowOf}
-use Rattle.node.proofs.Judged.{literal-small}
 
 -- word 2 of a literal is at most m
 literal-part : (u : ℕ) (l h : ℤ) (t m : ℕ) (g : Given) → literal u l h t m .takes g ≡ true → num (g .words .w2) ≤ m
@@ -33,4 +32,4 @@ module _ (k : ℕ) (g : Given) (p : rowOf k .takes g ≡ true) where
   -- a product's literal lies in −M..M
   pub product-part : k ≡ 6 → bounded (g .words .w2) ≡ true
   unfolding rowOf
-  product-part e = literal-small (g .words .w2) (and-left (within (pos 0) (g .words .w2) (pos big)) (eqb (g .x .sort) 1) (rw e at p))
+  product-part e = and-left (bounded (g .words .w2)) (eqb (g .x .sort) 1) (rw e at p)

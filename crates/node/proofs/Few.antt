@@ -11,6 +11,7 @@ use borrow.Author.Tests.{leb-true}
 use Rattle.tables.proofs.Bools.{true-false, and-left}
 use Rattle.signed.specs.Words.{num, within}
 use Rattle.words.specs.declared.Words.{Words}
+use Rattle.item.proofs.Products.{multiple-sort}
 use Rattle.node.specs.declared.Given.{Given}
 use Rattle.node.specs.Rows.{Row, literal, rowOf}
 
@@ -31,7 +32,7 @@ sort-few (suc (suc zero)) = literal-few 3 _ _ 2 127 129 (omega arith)
 sort-few (suc (suc (suc zero))) = λ g f x e. f
 sort-few (suc (suc (suc (suc zero)))) = λ g f x e. x
 sort-few (suc (suc (suc (suc (suc zero))))) = λ g f x e. x
-sort-few (suc (suc (suc (suc (suc (suc zero)))))) = λ g f x e. x
+sort-few (suc (suc (suc (suc (suc (suc zero)))))) = λ g f x e. rw (multiple-sort (g .words .w2) (g .x)) x
 sort-few (suc (suc (suc (suc (suc (suc (suc zero))))))) = λ g f x e. omega arith
 sort-few (suc (suc (suc (suc (suc (suc (suc (suc zero)))))))) = λ g f x e. omega arith
 sort-few (suc (suc (suc (suc (suc (suc (suc (suc (suc zero))))))))) = λ g f x e. omega arith

@@ -9,8 +9,7 @@ use lib.Dec.{leb}
 use lib.ListN.{List·getD-eq-default}
 use borrow.Author.Tests.{le-leb, lt-leb}
 use Rattle.tables.proofs.Bools.{and-left, and-right, mid-no}
-use Rattle.signed.specs.Words.{within, big, bounded, num}
-use Rattle.signed.proofs.Bounds.{in-true, true-small, small-in}
+use Rattle.signed.specs.Words.{bounded, num}
 use Rattle.words.specs.Record.{numbersOf, unused}
 use Rattle.item.specs.declared.Item.{Item}
 use Rattle.item.specs.Items.{small}
@@ -59,7 +58,3 @@ part-out {p} {m} w e h = lt-leb (num w) m (subst (λ (z : ℕ). m < z) e h)
 pub small-of : (x : Item) → small x ≡ true → Small x
 unfolding small
 small-of x e = record { low = and-left (bounded (x .low)) (bounded (x .high)) e; high = and-right (bounded (x .low)) (bounded (x .high)) e }
-
--- a product's literal lies in −M..M
-pub literal-small : (w : ℤ) → within (pos 0) w (pos big) ≡ true → bounded w ≡ true
-literal-small w e = true-small w (small-in (record { small = omega arith }) (record { small = omega arith }) (in-true (pos 0) w (pos big) e))

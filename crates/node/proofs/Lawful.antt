@@ -11,14 +11,15 @@ use lib.ListN.{getD}
 use lib.Dec.{leb, ltb, eqb}
 use borrow.Author.Tests.{eqb-true}
 use Rattle.tables.proofs.Bools.{true-false, and-left, and-right}
-use Rattle.signed.specs.Words.{within, big, num}
+use Rattle.signed.specs.Words.{within, bounded, big, num}
 use Rattle.signed.specs.Compare.{holds, canHold, canFail}
 use Rattle.signed.proofs.Order.{le-refl}
-use Rattle.signed.proofs.Bounds.{In, in-true, in-plus, in-minus, in-times, in-min, in-max}
+use Rattle.signed.proofs.Bounds.{In, in-true, in-plus, in-minus, in-min, in-max}
 use Rattle.signed.proofs.Pairs.{hold-in, fail-in}
 use Rattle.item.specs.declared.Item.{Item}
 use Rattle.item.specs.Sorts.{isNumber}
 use Rattle.item.specs.Items.{compared}
+use Rattle.item.proofs.Products.{multiple-in, multiple-sort}
 use Rattle.node.specs.declared.Given.{Given}
 use Rattle.node.specs.Rows.{Row, Seen, bit, isTrue, literal, numbers, bools, intLiteral, boolLiteral, enumLiteral, factNamed, sums, differences, product, comparison, present, conjunction, disjunction, negated, unknown, rowOf}
 use Rattle.node.proofs.Truth.{IsBool, bit-bool, both-min, either-max, negate-minus}
@@ -101,8 +102,8 @@ product-lawful : Lawful product
 product-lawful g f w x y k e =
     let n = g .words .w2 in
     record {
-      inside = in-times (in-true (pos 0) n (pos big) (and-left (within (pos 0) n (pos big)) (eqb (g .x .sort) 1) e) .low) (k .x .inside);
-      bool = λ z. absurd (omega (arith, eqb-true (g .x .sort) 1 (and-right (within (pos 0) n (pos big)) (eqb (g .x .sort) 1) e)));
+      inside = multiple-in n (g .x) x (k .x .inside);
+      bool = λ z. absurd (omega (arith, multiple-sort n (g .x), eqb-true (g .x .sort) 1 (and-right (bounded n) (eqb (g .x .sort) 1) e)));
     }
 
 comparison-lawful : Lawful comparison

@@ -6,7 +6,7 @@ use mathlib.Core.Bool.{Bool, true, false, not, _&&_, _||_}
 use mathlib.Core.List.{List, [], _∷_}
 use lib.ListN.{getD}
 use lib.Dec.{leb, ltb, eqb}
-use Rattle.signed.specs.Words.{eqZ, within, big, num}
+use Rattle.signed.specs.Words.{eqZ, within, bounded, big, num}
 use Rattle.signed.specs.Compare.{holds}
 use Rattle.words.specs.declared.Words.{Words}
 use Rattle.words.specs.Record.{numbersOf, unused}
@@ -126,10 +126,10 @@ sums = pair numbers sum (λ x. false) (λ x y. x +ℤ y)
 abbrev pub differences : Row
 differences = pair numbers difference (λ x. false) (λ x y. x -ℤ y)
 
--- 6 product: a node, a literal 0..M; it takes Int
+-- 6 product: a node, a literal −M..M; it takes Int
 abbrev pub product : Row
 product =
-    single 3 (λ g. within (pos 0) (g .words .w2) (pos big) && eqb (g .x .sort) 1) (λ g. multiple (g .words .w2) (g .x)) (λ s. s .x *ℤ s .words .w2)
+    single 3 (λ g. bounded (g .words .w2) && eqb (g .x .sort) 1) (λ g. multiple (g .words .w2) (g .x)) (λ s. s .x *ℤ s .words .w2)
 
 -- 7 comparison: operator, two nodes
 abbrev pub comparison : Row

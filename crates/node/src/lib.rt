@@ -136,7 +136,7 @@ fn product(g: Given) -> Judgement
 {
     let w = g.words;
     let x = g.x;
-    if within(0, w.w2, 1_000_000_000) {
+    if within(-1_000_000_000, w.w2, 1_000_000_000) {
         checked(3, g, x.sort == 1, multiple(w.w2, x))
     } else {
         bad()

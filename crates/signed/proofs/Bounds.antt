@@ -7,8 +7,8 @@ use native.Mathlib.Omega.{arith}
 use lib.IntN.{ℤ, pos, negsuc, negℤ, _+ℤ_, _-ℤ_, _*ℤ_}
 use lib.Signed.{leZ}
 use Rattle.signed.specs.Words.{within, bounded, big, minZ, maxZ}
-use Rattle.signed.proofs.Parts.{P, N, Le, le-true, true-le, signs}
-use Rattle.signed.proofs.Order.{le-plus, le-minus, le-times, le-min-min, le-max-max}
+use Rattle.signed.proofs.Parts.{P, N, Le, Lt, le-true, true-le, signs}
+use Rattle.signed.proofs.Order.{le-plus, le-minus, le-times, le-times-down, le-min-min, le-max-max}
 
 -- x lies in l..h
 pub record In (l x h : ℤ) : Type 0 where
@@ -50,6 +50,9 @@ in-minus i j = record { low = le-minus (i .low) (j .high); high = le-minus (i .h
 
 pub in-times : {l x h n : ℤ} → Le (pos 0) n → In l x h → In (l *ℤ n) (x *ℤ n) (h *ℤ n)
 in-times z i = record { low = le-times z (i .low); high = le-times z (i .high) }
+
+pub in-times-down : {l x h n : ℤ} → Lt n (pos 0) → In l x h → In (h *ℤ n) (x *ℤ n) (l *ℤ n)
+in-times-down z i = record { low = le-times-down z (i .high); high = le-times-down z (i .low) }
 
 pub in-min : {l₁ x h₁ l₂ y h₂ : ℤ} → In l₁ x h₁ → In l₂ y h₂ → In (minZ l₁ l₂) (minZ x y) (minZ h₁ h₂)
 in-min i j = record { low = le-min-min (i .low) (j .low); high = le-min-min (i .high) (j .high) }

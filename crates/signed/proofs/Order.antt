@@ -119,6 +119,12 @@ pub le-times : {a b n : ℤ} → Le (pos 0) n → Le a b → Le (a *ℤ n) (b *�
 le-times {a} {b} {n = pos k} z h = omega (arith, mul-le-mul-right k (h .le), times-parts a (pos k), times-parts b (pos k))
 le-times {a} {b} {n = negsuc k} z h = omega arith
 
+-- a factor below 0 turns the order
+pub le-times-down : {a b n : ℤ} → Lt n (pos 0) → Le a b → Le (b *ℤ n) (a *ℤ n)
+le-times-down {a} {b} {n = pos k} z h = absurd (omega arith)
+le-times-down {a} {b} {n = negsuc k} z h =
+    omega (arith, mul-le-mul-right (suc k) (h .le), times-parts a (negsuc k), times-parts b (negsuc k))
+
 pub le-min-min : {a a′ b b′ : ℤ} → Le a a′ → Le b b′ → Le (minZ a b) (minZ a′ b′)
 le-min-min {a} {a′} {b} {b′} h k = le-min (le-trans (min-left a b) h) (le-trans (min-right a b) k)
 

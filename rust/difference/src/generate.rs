@@ -632,13 +632,15 @@ impl<'a> Trees<'a> {
             let (low, high) = self.range(child);
             let size = low.abs().max(high.abs());
             let most = if size == 0 { M } else { M / size };
-            let factor = match self.random.below(4) {
+            let size = match self.random.below(4) {
                 0 => most,
                 1 => 0,
                 2 => most.min(1),
                 _ => self.random.within(0, most.min(20)),
             };
-            return self.push(&[6, 0, factor], &[(1, child)], low * factor, high * factor);
+            let factor = if self.random.chance(1, 2) { -size } else { size };
+            let (one, other) = (low * factor, high * factor);
+            return self.push(&[6, 0, factor], &[(1, child)], one.min(other), one.max(other));
         }
         let left = self.share(budget);
         let x = self.int_tree(left);

@@ -2,6 +2,7 @@
 
 use difference::generate::*;
 use difference::random::Random;
+use reference::M;
 use std::collections::BTreeMap;
 
 /// What the sheets have, and how many have it.
@@ -21,6 +22,18 @@ fn note(seen: &mut Seen, sheet: &Sheet) {
     }
     for operator in 0..6 {
         seen.note(format!("operator {operator}"), nodes.iter().any(|node| node[0] == 7 && node[1] == operator));
+    }
+    for (what, literals) in [
+        ("-M", -M..=-M),
+        ("between -M and -1", 1 - M..=-2),
+        ("-1", -1..=-1),
+        ("0", 0..=0),
+        ("1", 1..=1),
+        ("between 1 and M", 2..=M - 1),
+        ("M", M..=M),
+    ] {
+        let some = nodes.iter().any(|node| node[0] == 6 && literals.contains(&node[2]));
+        seen.note(format!("a product by a literal {what}"), some);
     }
     let sort = |node: i64| match nodes[node as usize] {
         [0 | 4 | 5 | 6, ..] => 1,

@@ -167,10 +167,12 @@ fn node(tables: &Tables, known: &mut [Known], record: &Record) -> Option<Known> 
         }
         6 => {
             let a = name(known, a, Type::Int)?;
-            if !(0..=M).contains(&b) {
+            if !(-M..=M).contains(&b) {
                 return None;
             }
-            known_node(Type::Int, a.low as i64 * b, a.high as i64 * b, a.cited)
+            // A negative literal turns the ends.
+            let (low, high) = if b < 0 { (a.high, a.low) } else { (a.low, a.high) };
+            known_node(Type::Int, low as i64 * b, high as i64 * b, a.cited)
         }
         7 => {
             let operator = below(a, 6)?;

@@ -240,7 +240,11 @@ fn node_records() {
         &[&[3, 2], &[2, 255, 7], &[7, 1, 1, 0]],
         &[&[3, 1], &[0, 1], &[7, 5, 0, 1], &[11, 2]],
         &[&[3, 1], &[6, 0, M / 5]],
+        &[&[3, 1], &[6, 0, -(M / 5)]],
         &[&[0, 0], &[6, 0, M]],
+        &[&[0, 0], &[6, 0, -M]],
+        &[&[0, M], &[6, 0, -1]],
+        &[&[0, -1], &[6, 0, -M]],
         &[&[1, 0], &[1, 1], &[10, 1, 0]],
     ] {
         assert!(some(good), "{good:?}");
@@ -269,8 +273,11 @@ fn node_records() {
         &[&[3, 2], &[3, 2], &[7, 3, 0, 1]],
         &[&[3, 1], &[0, 1], &[7, 6, 0, 1]],
         &[&[3, 1], &[6, 0, M / 5 + 1]],
+        &[&[3, 1], &[6, 0, -(M / 5) - 1]],
         &[&[0, 0], &[6, 0, M + 1]],
-        &[&[0, 0], &[6, 0, -1]],
+        &[&[0, 0], &[6, 0, -M - 1]],
+        &[&[0, 0], &[6, 0, i64::MIN]],
+        &[&[0, 2], &[6, 0, -M]],
         &[&[1, 0], &[6, 0, 1]],
         &[&[0, -M], &[0, 1], &[5, 0, 1]],
     ] {
@@ -331,6 +338,59 @@ fn every_comparison_range_against_every_pair() {
             let some = |wanted| (a..=b).any(|x| (c..=d).any(|y| holds(operator, x, y) == wanted)) as i64;
             assert_eq!(admissible(&sheet, 0, 0, 0, 0), good(some(true), 0));
             assert_eq!(admissible(&sheet, 0, 0, 0, 1), good(some(false), 0));
+        }
+    }
+}
+
+/// What S3a says of the comparisons `x × n = v` and its negation, where the fact x is in low..high.
+fn product_equals(low: i64, high: i64, n: i64, v: i64) -> [i64; 2] {
+    let sheet = sheet(
+        1,
+        [
+            &[&[1, low, high]],
+            &[&[3, 0], &[6, 0, n], &[0, v], &[7, 0, 1, 2], &[3, 0], &[6, 4, n], &[0, v], &[7, 0, 5, 6], &[11, 7]],
+            &[],
+            &[&[1, 0]],
+            &[&[0, 0, 0]],
+            &[&[1, 3, 0, 1, 1], &[1, 8, 1, 1, 1]],
+            &[&[0, 0, 0, 0], &[0, 0, 0, 0]],
+            &[],
+            &[],
+            &[],
+        ],
+    );
+    [0, 1].map(|operation| {
+        let answer = admissible(&sheet, 0, 0, 0, operation);
+        assert_eq!(answer, good(answer.value, 0));
+        answer.value
+    })
+}
+
+#[test]
+fn the_products_of_02() {
+    for v in -12..=12 {
+        assert_eq!(product_equals(-3, 5, -2, v), [(-10..=6).contains(&v) as i64, 1], "{v}");
+        assert_eq!(product_equals(-3, 5, 0, v), [(v == 0) as i64, (v != 0) as i64], "{v}");
+    }
+    for v in [-M, -M + 1, -1, 0, 1, M - 1, M] {
+        assert_eq!(product_equals(-1, 1, -M, v), [1, 1], "{v}");
+        assert_eq!(product_equals(0, 1, -M, v), [(v <= 0) as i64, 1], "{v}");
+    }
+}
+
+#[test]
+fn every_range_of_a_product_against_every_value() {
+    for low in -3..=3 {
+        for high in low..=3 {
+            for n in -3..=3 {
+                let products = || (low..=high).map(|x| x * n);
+                let range = products().min().unwrap()..=products().max().unwrap();
+                for v in -10..=10 {
+                    let equal = range.contains(&v);
+                    let unequal = range != (v..=v);
+                    assert_eq!(product_equals(low, high, n, v), [equal as i64, unequal as i64], "{low}..{high} by {n}, {v}");
+                }
+            }
         }
     }
 }

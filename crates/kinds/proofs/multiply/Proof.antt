@@ -1,5 +1,4 @@
 -- `kinds::multiply` meets its contract. Assumes nothing.
--- `rows::multiply` meets its contract: a word holds the product of two integers in −M..M. Assumes nothing.
 use Rattle.signed.proofs.Bounds.{small-true}
 use Rattle.signed.proofs.Fit.{back, fits-small}
 use Rattle.kinds.proofs.multiply.Statement.{statement}

@@ -1,4 +1,7 @@
 -- `kinds::value_from` meets its contract. Assumes nothing.
+use mathlib.Core.Path.{_∙_, ap, ap₂}
+use lib.IntN.{_*ℤ_}
+use Rattle.signed.specs.Words.{bounded}
 use Rattle.node.proofs.Judged.{past, row-past}
 use Rattle.node.specs.Rows.{rowOf}
 use Rattle.signed.proofs.Fit.{back, back-of}
@@ -21,8 +24,8 @@ multiply-requires : tie.Need-multiply-requires
 unfolding rowOf
 multiply-requires c κs =
     let at-start = c .before .before in
-    rw (back (at-start .fits .x), back-of (at-start .args .w .w2) (c .struct-told4 .given .1 .1 .0 .1))
-    (rw (c .before .match .keys7) at (at-start .pre))
+    ap bounded (ap₂ _*ℤ_ (back (at-start .fits .x)) (back-of (at-start .args .w .w2) (c .struct-told4 .given .1 .1 .0 .1)))
+    ∙ rw (c .before .match .keys7) at (at-start .pre)
 
 compare-requires : tie.Need-compare-requires
 compare-requires c κs = search needs

@@ -1,10 +1,11 @@
 -- `node::product` meets its contract. Assumes nothing.
-use Rattle.node.proofs.Judged.{accepted, refused, literal-small}
+use Rattle.node.proofs.Judged.{accepted, refused}
 use Rattle.node.specs.Rows.{product, fits}
 use mathlib.Core.Path.{sym, _∙_}
 use Rattle.tables.proofs.Bools.{mid-no}
 use Rattle.signed.proofs.Fit.{back, back-of}
 use Rattle.node.specs.Judged.{judged}
+use Rattle.signed.specs.Words.{bounded}
 use borrow.Author.Needs.{needs}
 use Rattle.node.proofs.product.Statement.{statement}
 use Rattle.node.proofs.product.Tie as tie
@@ -13,15 +14,16 @@ within-requires : tie.Need-within-requires
 within-requires c κs = search needs
 
 multiple-requires : tie.Need-multiple-requires
+unfolding bounded
 multiple-requires c κs =
     let at-if1 = c .before .before in
     let at-within = at-if1 .before in
     let at-struct-told = at-within .before in
     let at-start = at-struct-told .before .before .before in (
       rw (back-of (at-start .args .g .words .w2) (at-struct-told .struct-told .given .1 .1 .0 .1))
-          (literal-small _ (sym
+          (sym
           (rw (back-of (at-start .args .g .words .w2) (at-struct-told .struct-told .given .1 .1 .0 .1)) at (at-within .within .ensures))
-          ∙ at-if1 .if1 .taken)),
+          ∙ at-if1 .if1 .taken),
       at-start .pre .x,
     )
 
@@ -32,6 +34,7 @@ bad-requires : tie.Need-bad-requires
 bad-requires c κs = search needs
 
 returns : tie.Need-returns
+unfolding bounded
 returns c =
     let at-if1 = c .before .before .before .before in
     let at-within = at-if1 .before in
@@ -43,6 +46,7 @@ returns c =
     ∙ at-if1 .if1 .taken)))
 
 returns-2 : tie.Need-returns-2
+unfolding bounded
 returns-2 c =
     let at-within = c .before .before in
     let at-struct-told = at-within .before in
