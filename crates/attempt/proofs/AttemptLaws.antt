@@ -116,11 +116,10 @@ module _ {s : List ℤ} {h : Header} {facts verdicts states : List ℤ} {p o : �
   -- its precondition can be worked out
   pub evaluable : (n : ℕ) → n ≡ precondition s h o → Evaluable s h facts verdicts n
   evaluable n e =
+      let k = operation-ok (w .ready .accepted) o (w .ready .exists) in
       record {
-        accepted = w .ready .accepted;
-        known = w .known;
-        judged = w .judged;
-        exists = rw e (operation-ok (w .ready .accepted) o (w .ready .exists) .node);
+        over = record { accepted = w .ready .accepted; known = w .known; judged = w .judged; exists = rw e (k .node) };
+        bool = rw e (k .bool);
       }
 
 module _ {s : List ℤ} {h : Header} {facts verdicts states : List ℤ} {p o : ℕ} (w : Attemptable s h facts verdicts states p o) (v : Wanted) where

@@ -16,7 +16,7 @@ use Rattle.calls.specs.Lists.{publicCall, publicCalls}
 use Rattle.text.specs.Lines.{textOf}
 use Rattle.path_lines.specs.Output.{output}
 use Rattle.calls.specs.Reports.{reachableAnswer, admissibleAnswer, depthAnswer}
-use Rattle.cases.specs.Sheets.{whole, sixRoutes, thirdOutcome, sumWith, threeEntities, productIs}
+use Rattle.cases.specs.Sheets.{whole, sixRoutes, thirdOutcome, sumWith, threeEntities, productIs, amounts, moneyProduct}
 
 -- a case by its number: the row that the definitions give, and the row that the papers give
 pub record Case : Type 0 where
@@ -89,6 +89,19 @@ operatedWith x v =
     let states = pos 0 ∷ [] in
     row (countAnswer (operateAnswer s (x ∷ []) one states (pos 0) (pos 0) (negsuc 0))) (operateStates s (x ∷ []) one states (pos 0) (pos 0) (negsuc 0)) []
 
+-- S3a: whether a duration in low..high of unit p and 0 seconds may be w seconds
+unfoldable pub secondsMayBe : ℕ → ℕ → ℕ → ℕ → List ℤ
+secondsMayBe low high p w =
+    row (countAnswer (admissibleAnswer (amounts 4 13 low high p 0 3 w 3) (pos 0) (pos 0) (pos 0) (pos 0))) [] []
+
+-- the operation where the fact is 1 of unit p, and it and v of unit q have to be w of unit r
+unfoldable pub operatedOnUnits : ℕ → ℕ → ℕ → ℕ → ℕ → List ℤ
+operatedOnUnits p v q w r =
+    let s = amounts 4 13 0 10 p v q w r in
+    let one = pos 1 ∷ [] in
+    let states = pos 0 ∷ [] in
+    row (countAnswer (operateAnswer s one one states (pos 0) (pos 0) (negsuc 0))) (operateStates s one one states (pos 0) (pos 0) (negsuc 0)) []
+
 unfoldable pub judged : List ℤ → List ℤ
 judged s = row (statusAnswer (checked s)) [] []
 
@@ -101,6 +114,44 @@ unfoldable pub wrote : List ℤ → List ℤ
 wrote s = map pos (output (textOf s))
 
 -- ---- the table
+
+-- 02, CR 4, numbered 14: what is refused at the node, types that mix and products; the limits of currencies and units; each converted range
+-- within −M..M (11,575 days are more than M seconds); S3a by all whole numbers of 1 to 2 days in seconds; a day is 24 hours, an hour 3,600 seconds
+unfoldable pub amountCases : List Case
+amountCases =
+    record { number = 14; got = judged (amounts 3 12 0 9 5 0 5 0 5); want = 0 ∷ 0 ∷ 0 ∷ 0 ∷ [] }
+    ∷ record { number = 14; got = judged (amounts 3 12 0 9 5 0 6 0 5); want = 3 ∷ 3 ∷ 0 ∷ 0 ∷ [] }
+    ∷ record { number = 14; got = judged (amounts 3 12 0 9 5 0 5 0 6); want = 3 ∷ 5 ∷ 0 ∷ 0 ∷ [] }
+    ∷ record { number = 14; got = judged (amounts 3 0 0 9 0 0 0 0 0); want = 3 ∷ 3 ∷ 0 ∷ 0 ∷ [] }
+    ∷ record { number = 14; got = judged (amounts 4 12 0 9 0 0 0 0 0); want = 3 ∷ 3 ∷ 0 ∷ 0 ∷ [] }
+    ∷ record { number = 14; got = judged (amounts 1 13 0 9 0 0 0 0 0); want = 3 ∷ 3 ∷ 0 ∷ 0 ∷ [] }
+    ∷ record { number = 14; got = judged moneyProduct; want = 3 ∷ 2 ∷ 0 ∷ 0 ∷ [] }
+    ∷ record { number = 14; got = judged (amounts 3 12 0 9 127 0 127 0 127); want = 0 ∷ 0 ∷ 0 ∷ 0 ∷ [] }
+    ∷ record { number = 14; got = judged (amounts 3 12 0 9 128 0 127 0 127); want = 3 ∷ 0 ∷ 0 ∷ 0 ∷ [] }
+    ∷ record { number = 14; got = judged (amounts 4 13 0 9 3 0 3 0 3); want = 0 ∷ 0 ∷ 0 ∷ 0 ∷ [] }
+    ∷ record { number = 14; got = judged (amounts 4 13 0 9 4 0 3 0 3); want = 3 ∷ 0 ∷ 0 ∷ 0 ∷ [] }
+    ∷ record { number = 14; got = judged (amounts 4 13 0 9 3 0 4 0 3); want = 3 ∷ 2 ∷ 0 ∷ 0 ∷ [] }
+    ∷ record { number = 14; got = judged (amounts 4 13 0 11_574 0 0 3 0 3); want = 0 ∷ 0 ∷ 0 ∷ 0 ∷ [] }
+    ∷ record { number = 14; got = judged (amounts 4 13 0 11_575 0 0 3 0 3); want = 3 ∷ 3 ∷ 0 ∷ 0 ∷ [] }
+    ∷ record { number = 14; got = judged (amounts 4 13 0 11_574 0 0 0 0 3); want = 0 ∷ 0 ∷ 0 ∷ 0 ∷ [] }
+    ∷ record { number = 14; got = judged (amounts 4 13 0 11_575 0 0 0 0 3); want = 3 ∷ 5 ∷ 0 ∷ 0 ∷ [] }
+    ∷ record { number = 14; got = judged (amounts 4 13 0 999_999_999 3 1 3 0 0); want = 0 ∷ 0 ∷ 0 ∷ 0 ∷ [] }
+    ∷ record { number = 14; got = judged (amounts 4 13 0 1_000_000_000 3 1 3 0 0); want = 3 ∷ 3 ∷ 0 ∷ 0 ∷ [] }
+    ∷ record { number = 14; got = secondsMayBe 1 2 0 86_399; want = 0 ∷ 0 ∷ 0 ∷ 0 ∷ [] }
+    ∷ record { number = 14; got = secondsMayBe 1 2 0 86_400; want = 0 ∷ 0 ∷ 1 ∷ 0 ∷ [] }
+    ∷ record { number = 14; got = secondsMayBe 1 2 0 86_401; want = 0 ∷ 0 ∷ 1 ∷ 0 ∷ [] }
+    ∷ record { number = 14; got = secondsMayBe 1 2 0 172_800; want = 0 ∷ 0 ∷ 1 ∷ 0 ∷ [] }
+    ∷ record { number = 14; got = secondsMayBe 1 2 0 172_801; want = 0 ∷ 0 ∷ 0 ∷ 0 ∷ [] }
+    ∷ record { number = 14; got = operatedOnUnits 0 0 1 24 1; want = 0 ∷ 0 ∷ 0 ∷ 0 ∷ 0 ∷ [] }
+    ∷ record { number = 14; got = operatedOnUnits 0 0 1 23 1; want = 10 ∷ 0 ∷ 0 ∷ 0 ∷ 0 ∷ [] }
+    ∷ record { number = 14; got = operatedOnUnits 1 0 3 3_600 3; want = 0 ∷ 0 ∷ 0 ∷ 0 ∷ 0 ∷ [] }
+    ∷ record { number = 14; got = operatedOnUnits 1 0 3 3_599 3; want = 10 ∷ 0 ∷ 0 ∷ 0 ∷ 0 ∷ [] }
+    ∷ record { number = 14; got = operatedOnUnits 2 0 3 60 3; want = 0 ∷ 0 ∷ 0 ∷ 0 ∷ 0 ∷ [] }
+    ∷ record { number = 14; got = operatedOnUnits 1 0 2 60 2; want = 0 ∷ 0 ∷ 0 ∷ 0 ∷ 0 ∷ [] }
+    ∷ record { number = 14; got = operatedOnUnits 0 1 3 86_401 3; want = 0 ∷ 0 ∷ 0 ∷ 0 ∷ 0 ∷ [] }
+    ∷ record { number = 14; got = operatedOnUnits 3 1 0 86_401 3; want = 0 ∷ 0 ∷ 0 ∷ 0 ∷ 0 ∷ [] }
+    ∷ record { number = 14; got = operatedOnUnits 1 23 1 1 0; want = 0 ∷ 0 ∷ 0 ∷ 0 ∷ 0 ∷ [] }
+    ∷ []
 
 -- 02, CR 3, numbered 13: "range −3..5 by −2 gives −10..6; by 0 gives 0..0". 7 × 142,857,143 is M + 1
 unfoldable pub productCases : List Case
@@ -123,7 +174,7 @@ productCases =
     ∷ record { number = 13; got = operatedWith (pos 5) (minus 10); want = 0 ∷ 0 ∷ 0 ∷ 0 ∷ 0 ∷ [] }
     ∷ record { number = 13; got = operatedWith (minus 3) (pos 6); want = 0 ∷ 0 ∷ 0 ∷ 0 ∷ 0 ∷ [] }
     ∷ record { number = 13; got = operatedWith (pos 3) (pos 6); want = 10 ∷ 0 ∷ 0 ∷ 0 ∷ 0 ∷ [] }
-    ∷ []
+    ∷ amountCases
 
 -- 02, CR 2, numbered 12: the first entity, in the effects' order, that blocks the wanted outcome, or with −1 outcome 0
 unfoldable pub blockedCases : List Case

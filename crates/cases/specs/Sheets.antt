@@ -98,3 +98,27 @@ productWords =
 -- the fact in low..high, the literal n, the number v
 unfoldable pub productIs : ℤ → ℤ → ℤ → ℤ → List ℤ
 productIs low high n v = set (set (set (set (map pos productWords) 17 low) 18 high) (16 + 8 * 2 + 2) n) (16 + 8 * 3 + 1) v
+
+-- 02, CR 4: a fact of type t in low..high of set p, its sum with a literal, and an operation whose precondition is that the sum is a second
+-- literal; the literals are of kind k, their values v and w, their currencies or units q and r
+unfoldable pub amounts : ℕ → ℕ → ℕ → ℕ → ℕ → ℕ → ℕ → ℕ → ℕ → List ℤ
+amounts t k low high p v q w r =
+    map
+    pos
+    (1 ∷ 1 ∷ 1 ∷ 5 ∷ 0 ∷ 1 ∷ 1 ∷ 1
+    ∷ 1 ∷ 0 ∷ 0 ∷ 0 ∷ 0 ∷ 0 ∷ 0 ∷ 0
+    ∷ t ∷ low ∷ high ∷ 0 ∷ 0 ∷ p ∷ 0 ∷ 0
+    ∷ 3 ∷ 0 ∷ 0 ∷ 0 ∷ 0 ∷ 0 ∷ 0 ∷ 0
+    ∷ k ∷ v ∷ q ∷ 0 ∷ 0 ∷ 0 ∷ 0 ∷ 0
+    ∷ 4 ∷ 0 ∷ 1 ∷ 0 ∷ 0 ∷ 0 ∷ 0 ∷ 0
+    ∷ k ∷ w ∷ r ∷ 0 ∷ 0 ∷ 0 ∷ 0 ∷ 0
+    ∷ 7 ∷ 0 ∷ 2 ∷ 3 ∷ 0 ∷ 0 ∷ 0 ∷ 0
+    ∷ 1 ∷ 0 ∷ 0 ∷ 0 ∷ 0 ∷ 0 ∷ 0 ∷ 0
+    ∷ 0 ∷ 0 ∷ 0 ∷ 0 ∷ 0 ∷ 0 ∷ 0 ∷ 0
+    ∷ 1 ∷ 4 ∷ 0 ∷ 1 ∷ 1 ∷ 0 ∷ 0 ∷ 0
+    ∷ 0 ∷ 0 ∷ 0 ∷ 0 ∷ 0 ∷ 0 ∷ 0 ∷ 0
+    ∷ [])
+
+-- a product of money
+unfoldable pub moneyProduct : List ℤ
+moneyProduct = set (productIs (pos 0) (pos 1) (pos 1) (pos 0)) 16 (pos 3)

@@ -2,15 +2,17 @@
 -- exports' answers in 01's numbers and of the lent buffers as the contracts in src/lib.rt give them. The records that they use stand in
 -- specs/Promised.antt. Each is proved from the laws of the crates below and of InNumbers.antt.
 -- Assumes nothing.
-use mathlib.Core.Path.{_≡_, sym, ap, _∙_}
-use mathlib.Core.Bool.{true}
+use mathlib.Core.Path.{_≡_, refl, sym, ap, _∙_}
+use mathlib.Core.Bool.{true, false, _&&_}
 use mathlib.Core.List.{List, _∷_}
 use mathlib.Core.Logic.{_↔_}
-use Prim.Native.Nat.{ℕ, _%_, _≤_, _<_}
-use lib.IntN.{ℤ, pos, negsuc}
+use Prim.Native.Nat.{ℕ, _+_, _%_, _≤_, _<_}
+use lib.IntN.{ℤ, pos, negsuc, _+ℤ_, _-ℤ_, _*ℤ_}
 use lib.ListN.{length, take}
 use Rattle.signed.specs.Words.{num}
+use Rattle.signed.specs.Compare.{holds}
 use Rattle.signed.proofs.Numbers.{num-of}
+use Rattle.words.specs.declared.Words.{Words}
 use Rattle.answer.specs.declared.Refusal.{Refusal}
 use Rattle.answer.specs.Number.{number, place, doneAnswer}
 use Rattle.answer.specs.Answers.{statusAnswer, countAnswer, walkAnswer}
@@ -21,7 +23,15 @@ use Rattle.decimal.specs.Decimal.{hasText}
 use Rattle.text.specs.Lines.{all, textOf}
 use Rattle.text.specs.Calls.{readAnswer, readBuffer, writeAnswer, writeBuffer}
 use Rattle.text.proofs.RoundTrips.{text-again, words-again, one-text}
+use Rattle.item.specs.Sorts.{isDuration}
+use Rattle.item.specs.Units.{crossed, factor, shared, converted}
+use Rattle.item.proofs.Units.{converted-two}
+use Rattle.records.specs.Accept.{checked}
+use Rattle.records.specs.Nodes.{nodeWords}
 use Rattle.records.specs.Operations.{outcomes}
+use Rattle.predicate.specs.Values.{truth}
+use Rattle.predicate.specs.Units.{secondsOf}
+use Rattle.predicate.proofs.UnitLaws.{sum-seconds, difference-seconds, comparison-seconds}
 use Rattle.operation.specs.Mask.{inMask}
 use Rattle.operation.specs.States.{present}
 use Rattle.operation.specs.Outcomes.{moves, applicable}
@@ -36,12 +46,13 @@ use Rattle.calls.specs.Reports.{reachableAnswer}
 use Rattle.calls.specs.Lists.{publicCall, publicCalls, ListedNumbers}
 use Rattle.flows.proofs.PublicListing.{public-numbers, public-whole}
 use Rattle.fernpocket.specs.Before.{placeless, operateBefore, statesBefore}
-use Rattle.fernpocket.specs.Promised.{Went, WasRefused, FlowReady, readTo13, RanPath, TwoApply, OneApplies, Operated, Blocked, NoneApplies, Decided, Foreseen}
+use Rattle.fernpocket.specs.Promised.{Went, WasRefused, FlowReady, readTo13, RanPath, TwoApply, OneApplies, Operated, Blocked, NoneApplies, Decided, Foreseen, Pairs, RefusedAt}
 use Rattle.fernpocket.proofs.AsBefore.{before-unless-16, one-never-16}
 use Rattle.fernpocket.proofs.Covered.{covered, applied-covered, still-reached}
 use Rattle.fernpocket.proofs.InNumbers.{went-is, listable, ready-sheet, ready-flow, read-same, ran-path, operated, mask-reached}
 use Rattle.fernpocket.proofs.InNumbers.{wanted-goes, only-goes, one-blocked, eleven, sixteen, two-sixteen}
 use Rattle.fernpocket.proofs.InNumbers.{read-kept, write-kept, assemble-kept, verdicts-kept, operate-kept}
+use Rattle.fernpocket.proofs.InNumbers.{status-accepted, types-refused, currencies-refused}
 use Rattle.fernpocket.proofs.InNumbers.{run-path-kept, run-states-kept, first-kept, next-kept}
 
 -- ---- demand 1: refusals
@@ -174,6 +185,45 @@ one-outcome-as-before s values given states persona operation n =
 pub mask-is-reached : (s : List ℤ) (entity : ℤ) (mask : ℕ) → Went (countAnswer (reachableAnswer s entity)) mask
     → (q : ℕ) → Reached s (headerOf s) (num entity) q ↔ (inMask mask q ≡ true)
 mask-is-reached s entity mask w = mask-reached s entity mask (went-is (reachableAnswer s entity) w)
+
+-- ---- 02, CR 4: money and durations
+
+-- A sum, a difference or a comparison of two types that differ and are not both durations, such as money and Int, is refused 3 at that node;
+pub mixed-refused : (s : List ℤ) (n a b : ℕ) → Pairs s n a b → (a ≡ b → ⊥) → (isDuration a && isDuration b) ≡ false → RefusedAt s n
+mixed-refused = types-refused
+
+-- so is one of two currencies, c and d.
+pub two-currencies-refused : (s : List ℤ) (n c d : ℕ) → Pairs s n (130 + c) (130 + d) → d ≤ 127 → (c ≡ d → ⊥) → RefusedAt s n
+two-currencies-refused = currencies-refused
+
+-- v days beside seconds are v × 86,400, hours v × 3,600, minutes v × 60: durations in days, hours, minutes, seconds have the types 258 to 261.
+pub unit-seconds : (v : ℤ)
+    → (converted 258 261 v ≡ (v *ℤ pos 86400)) × (converted 259 261 v ≡ (v *ℤ pos 3600)) × (converted 260 261 v ≡ (v *ℤ pos 60))
+unfolding converted shared factor crossed
+unit-seconds v = (refl, refl, refl)
+
+-- Conversion in two steps is conversion in one.
+pub conversion-steps : (u v w : ℕ) (x : ℤ) → u ≤ v → v ≤ w → x *ℤ pos (factor u v) *ℤ pos (factor v w) ≡ (x *ℤ pos (factor u w))
+conversion-steps = converted-two
+
+-- On an accepted sheet, over any facts and verdicts: whatever the units of two durations, their sum has the seconds of both, their difference
+-- the seconds between them, and each of the six comparisons is that of their seconds.
+module _ (s : List ℤ) (a : statusAnswer (checked s) .refusal ≡ pos 0) (facts verdicts : List ℤ) (n : ℕ) (l : n < headerOf s .nodes) where
+  abbrev words : Words
+  words = nodeWords s (headerOf s) n
+
+  abbrev seconds : ℕ → ℤ
+  seconds n = secondsOf s (headerOf s) facts verdicts n
+
+  pub sum-in-seconds : num (words .w0) ≡ 4 → seconds n ≡ (seconds (num (words .w1)) +ℤ seconds (num (words .w2)))
+  sum-in-seconds k = sum-seconds (status-accepted s a) facts verdicts n l k
+
+  pub difference-in-seconds : num (words .w0) ≡ 5 → seconds n ≡ (seconds (num (words .w1)) -ℤ seconds (num (words .w2)))
+  difference-in-seconds k = difference-seconds (status-accepted s a) facts verdicts n l k
+
+  pub comparison-in-seconds : num (words .w0) ≡ 7
+      → truth s (headerOf s) facts verdicts n ≡ holds (num (words .w1)) (seconds (num (words .w2))) (seconds (num (words .w3)))
+  comparison-in-seconds k = comparison-seconds (status-accepted s a) facts verdicts n l k
 
 -- ---- demand 2: the text of a sheet
 

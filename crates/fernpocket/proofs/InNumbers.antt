@@ -1,16 +1,16 @@
 -- Laws behind the headline theorems: from 01's numbers to the answers' cases, and what each call then did.
 -- Assumes nothing.
 use mathlib.Core.Path.{_≡_, refl, sym, ap, subst, _∙_}
-use mathlib.Core.Bool.{Bool, true, false}
+use mathlib.Core.Bool.{Bool, true, false, _&&_}
 use mathlib.Core.List.{List, [], _∷_, _++_}
 use mathlib.Core.Logic.{_↔_, inl, inr}
-use Prim.Native.Nat.{ℕ, zero, suc, _<_, _^_}
+use Prim.Native.Nat.{ℕ, zero, suc, _+_, _≤_, _<_, _^_}
 use lib.IntN.{ℤ, pos, negsuc, natAbs}
 use lib.ListN.{length, take}
 use native.Mathlib.Omega.{arith}
 use native.Mathlib.Decide.{decLt}
-use borrow.Author.Tests.{ltb-true}
-use Rattle.tables.proofs.Bools.{true-false}
+use borrow.Author.Tests.{ltb-true, lt-leb}
+use Rattle.tables.proofs.Bools.{true-false, and-false-right}
 use Rattle.signed.specs.Words.{num, eqZ}
 use Rattle.signed.proofs.Numbers.{num-of, num-pos}
 use Rattle.answer.specs.declared.Refusal.{Refusal}
@@ -27,8 +27,11 @@ use Rattle.answer.proofs.Numbers.{number-some, status-done, count-done, count-e
 use Rattle.layout.specs.declared.Header.{Header}
 use Rattle.layout.specs.Header.{headerOf}
 use Rattle.layout.specs.Tables.{effect, entityOf}
+use Rattle.item.specs.Sorts.{isDuration}
+use Rattle.records.specs.Accept.{checked}
 use Rattle.records.specs.Accepted.{Accepted}
 use Rattle.records.proofs.Acceptance.{accepted}
+use Rattle.records.proofs.MixedTypes.{mixed-refused}
 use Rattle.records.specs.Operations.{outcomes}
 use Rattle.records.proofs.OperationLaws.{operation-ok}
 use Rattle.operation.specs.Mask.{inMask}
@@ -68,13 +71,17 @@ use Rattle.flows.proofs.PublicListing.{public-listing, run-takes-path}
 use Rattle.text.specs.Lines.{wordsOf, textOf}
 use Rattle.text.specs.Calls.{readAnswer, readBuffer, writeAnswer, writeBuffer, filled}
 use Rattle.reports.proofs.ReportLaws.{asked, reachable-is}
-use Rattle.fernpocket.specs.Promised.{Went, WasRefused, FlowReady, readTo13, RanPath, After, moved, stayed, TwoApply, OneApplies, Operated, Blocked, NoneApplies, Decided}
+use Rattle.fernpocket.specs.Promised.{Went, WasRefused, FlowReady, readTo13, RanPath, After, moved, stayed, TwoApply, OneApplies, Operated, Blocked, NoneApplies, Decided, Pairs, RefusedAt}
 use Rattle.fernpocket.proofs.Covered.{under-header, Made, made, made-after, attempt-ready}
 
 -- ---- answers
 
 pub went-is : (c : Count) {n : ℕ} → Went (countAnswer c) n → c ≡ Is n
 went-is c {n} w = count-done c n (w .refusal) (w .value)
+
+-- an accepted sheet, by its number
+pub status-accepted : (s : List ℤ) → statusAnswer (checked s) .refusal ≡ pos 0 → Accepted s (headerOf s)
+status-accepted s a = accepted s (status-done _ a)
 
 -- ---- lists of calls
 
@@ -83,7 +90,7 @@ listable {s} u = record { sheet = sym (opened-done s (status-done _ (u .sheet)))
 
 module _ {s : List ℤ} {f : ℤ} {b : List ℕ} (u : FlowReady s f b) where
   pub ready-sheet : Accepted s (headerOf s)
-  ready-sheet = accepted s (status-done _ (u .sheet))
+  ready-sheet = status-accepted s (u .sheet)
 
   pub ready-flow : num f < headerOf s .flows
   ready-flow = ltb-true _ _ (u .flow)
@@ -422,3 +429,15 @@ module _ (s : List ℤ) (e : ℤ) where
           let r = reachable-is s e (climbed-at (opened s) (reportRungs named) refl p .sheet) (asked s named refl p .exist) in
           let y : r .mask ≡ m = cc (sym (r .is) ∙ a) in
           rw y at (r .each q)
+
+-- ---- money and durations
+
+pub types-refused : (s : List ℤ) (n a b : ℕ) → Pairs s n a b → (a ≡ b → ⊥) → (isDuration a && isDuration b) ≡ false → RefusedAt s n
+types-refused s n a b p e d =
+    let q = mixed-refused s n (p .header) (p .groups) (p .exists) (p .earlier) (p .kind) (rw (p .first, p .second) d)
+    (λ z. e (sym (p .first) ∙ z ∙ p .second)) in
+    record { refusal = rw q; place = rw q }
+
+pub currencies-refused : (s : List ℤ) (n c d : ℕ) → Pairs s n (130 + c) (130 + d) → d ≤ 127 → (c ≡ d → ⊥) → RefusedAt s n
+currencies-refused s n c d p l e =
+    types-refused s n (130 + c) (130 + d) p (λ z. e (omega arith)) (and-false-right (isDuration (130 + c)) _ (lt-leb 258 (130 + d) (omega arith)))

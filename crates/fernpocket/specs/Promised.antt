@@ -5,7 +5,7 @@ use mathlib.Core.Path.{_≡_}
 use mathlib.Core.Bool.{true, false}
 use mathlib.Core.List.{List, [], _∷_}
 use mathlib.Core.Logic.{_⊎_}
-use Prim.Native.Nat.{ℕ, zero, suc, _≤_, _<_}
+use Prim.Native.Nat.{ℕ, zero, suc, _+_, _≤_, _<_}
 use lib.IntN.{ℤ, pos, negsuc, natAbs}
 use lib.ListN.{length, take, getD}
 use Rattle.signed.specs.Words.{num, eqZ}
@@ -13,12 +13,14 @@ use Rattle.answer.specs.declared.Answer.{Answer}
 use Rattle.answer.specs.Number.{doneAnswer}
 use Rattle.answer.specs.Answers.{statusAnswer, countAnswer, walkAnswer}
 use Rattle.layout.specs.declared.Header.{Header}
-use Rattle.layout.specs.Header.{headerOf}
+use Rattle.layout.specs.Header.{headerOf, goodHeader}
+use Rattle.layout.specs.Groups.{goodGroups}
 use Rattle.layout.specs.Tables.{effect, entityOf, toOf}
-use Rattle.records.specs.Accept.{checked}
+use Rattle.records.specs.Accept.{tablesOf, goodIn, checked}
+use Rattle.records.specs.Nodes.{nodeWords}
 use Rattle.records.specs.Operations.{outcomes}
 use Rattle.facts.specs.Assembled.{assembled}
-use Rattle.predicate.specs.Values.{truth}
+use Rattle.predicate.specs.Values.{childSort, truth}
 use Rattle.predicate.specs.Verdicts.{verdictsOf}
 use Rattle.operation.specs.Mask.{allowed}
 use Rattle.operation.specs.Outcomes.{ofOutcome, moves, applicable}
@@ -137,3 +139,23 @@ Decided a = (a .refusal ≡ pos 0) ⊎ ((a .refusal ≡ pos 11) ⊎ (a .refusal 
 pub record Foreseen (s : List ℤ) (p o : ℤ) (n a b : ℕ) : Type 0 where
   pub admissible : countAnswer (admissibleAnswer s (pos n) (pos a) p o) ≡ doneAnswer 1 0
   pub caused : countAnswer (canCauseAnswer s p (pos n) (pos a) (pos b)) ≡ doneAnswer 1 0
+
+-- ---- money and durations
+
+-- 02, CR 4: header and groups are good, no record before node n is bad, and node n is a sum, a difference or a comparison of two nodes, the
+-- first of type a, the second of type b
+pub record Pairs (s : List ℤ) (n a b : ℕ) : Type 0 where
+  pub header : goodHeader s ≡ true
+  pub groups : goodGroups s (headerOf s) ≡ true
+  pub exists : n < headerOf s .nodes
+  pub earlier : (k : ℕ) → k < headerOf s .facts + n → goodIn (tablesOf s (headerOf s)) k ≡ true
+  pub kind :
+      (num (nodeWords s (headerOf s) n .w0) ≡ 4)
+      ⊎ ((num (nodeWords s (headerOf s) n .w0) ≡ 5) ⊎ (num (nodeWords s (headerOf s) n .w0) ≡ 7))
+  pub first : childSort s (headerOf s) n 0 ≡ a
+  pub second : childSort s (headerOf s) n 1 ≡ b
+
+-- refused 3 at node n
+pub record RefusedAt (s : List ℤ) (n : ℕ) : Type 0 where
+  pub refusal : statusAnswer (checked s) .refusal ≡ pos 3
+  pub place : statusAnswer (checked s) .place ≡ pos (headerOf s .facts + n)

@@ -7,6 +7,7 @@ use mathlib.Core.Bool.{Bool, cond, _&&_}
 use Rattle.signed.specs.Words.{bounded, minZ, maxZ}
 use Rattle.signed.specs.Compare.{canHold, canFail}
 use Rattle.item.specs.declared.Item.{Item}
+use Rattle.item.specs.Units.{shared, converted}
 
 abbrev pub span : ℕ → ℤ → ℤ → Item
 span t a b = record { sort = t; low = a; high = b }
@@ -15,9 +16,14 @@ span t a b = record { sort = t; low = a; high = b }
 abbrev pub none : Item
 none = span 0 (pos 0) (pos 0)
 
--- both ends lie in −M..M: "each such Int range must stay within −M..M"; the other ranges always do
+-- both ends lie in −M..M: "each such Int range must stay within −M..M", and 02's money and durations too; the other ranges always do
 unfoldable pub small : Item → Bool
 small x = bounded (x .low) && bounded (x .high)
+
+-- 02, CR 4: x beside y, each of two durations being taken to the smaller unit
+unfoldable pub align : Item → Item → Item
+align x y =
+    span (shared (x .sort) (y .sort)) (converted (x .sort) (y .sort) (x .low)) (converted (x .sort) (y .sort) (x .high))
 
 -- sum: low+low..high+high, of the operands' type
 abbrev pub sum : Item → Item → Item

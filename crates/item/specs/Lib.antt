@@ -1,3 +1,4 @@
 pub mod Sorts
+pub mod Units
 pub mod Items
 pub mod Inner

@@ -1,8 +1,9 @@
 // A type with a range of values, and the range of each operator from those of its operands.
 ghost use mathlib.Core.Path.{_≡_};
 ghost use mathlib.Core.Bool.{true, cond};
-ghost use lib.IntN.{_*ℤ_};
+ghost use lib.IntN.{pos, _*ℤ_};
 ghost use Rattle.signed.specs.Words.{bounded};
+ghost use Rattle.item.specs.Units as units;
 ghost use Rattle.item.specs.Items as items;
 ghost use Rattle.item.specs.Inner.{Small};
 use signed::bounded;
@@ -13,6 +14,7 @@ use signed::minus;
 use signed::plus;
 use signed::smaller;
 use signed::times;
+use signed::to_word;
 
 // A type by its number, and the values from `low` to `high`, both included.
 pub struct Item {
@@ -32,6 +34,32 @@ pub fn small(x: Item) -> bool
     ensures { λ r. ⌜ r ≡ items.small x ⌝ }
 {
     bounded(x.low) & bounded(x.high)
+}
+
+// n where the way from type u to type v leads past type k, else 1.
+fn crossed(k: usize, n: usize, u: usize, v: usize) -> usize
+    ensures { λ r. ⌜ r ≡ units.crossed k n u v ⌝ }
+{
+    if (u <= k) & (k < v) { n } else { 1 }
+}
+
+// How many of the unit of type v one of the unit of type u is.
+fn factor(u: usize, v: usize) -> usize
+    ensures { λ r. ⌜ r ≡ units.factor u v ⌝ }
+{
+    crossed(258, 24, u, v) * crossed(259, 60, u, v) * crossed(260, 60, u, v)
+}
+
+// A value of type a beside one of type b.
+pub fn converted(a: usize, b: usize, v: i64) -> i64
+    requires { ⌜ bounded v ≡ true ⌝ }
+    ensures { λ r. ⌜ r ≡ units.converted a b v ⌝ }
+{
+    if (258 <= a) & (a < b) {
+        times(v, to_word(factor(a, b)))
+    } else {
+        v
+    }
 }
 
 fn choose(b: bool, x: i64, y: i64) -> i64
@@ -60,6 +88,26 @@ fn scaled(sort: usize, a: i64, b: i64, n: i64) -> Item
     ensures { λ r. ⌜ r ≡ items.span sort (a *ℤ n) (b *ℤ n) ⌝ }
 {
     span(sort, times(a, n), times(b, n))
+}
+
+// x, a duration, in the unit of type t.
+fn in_unit(x: Item, t: usize) -> Item
+    requires { ⌜ Small x ⌝ }
+    ensures { λ r. ⌜ r ≡ items.span t (x .low *ℤ pos (units.factor (x .sort) t)) (x .high *ℤ pos (units.factor (x .sort) t)) ⌝ }
+{
+    scaled(t, x.low, x.high, to_word(factor(x.sort, t)))
+}
+
+// x beside y, each of two durations being taken to the smaller unit.
+pub fn align(x: Item, y: Item) -> Item
+    requires { ⌜ Small x ⌝ }
+    ensures { λ r. ⌜ r ≡ items.align x y ⌝ }
+{
+    if (258 <= x.sort) & (x.sort < y.sort) {
+        in_unit(x, y.sort)
+    } else {
+        x
+    }
 }
 
 pub fn multiple(n: i64, x: Item) -> Item

@@ -11,12 +11,13 @@ use Rattle.tables.proofs.Bools.{true-false, and-left}
 use Rattle.signed.specs.Words.{eqZ, num}
 use Rattle.signed.proofs.Parts.{eq-true}
 use Rattle.words.specs.declared.Words.{Words}
+use Rattle.node.specs.declared.Given.{Given}
 use Rattle.node.specs.Rows.{Row, unknown, rows, rowOf, conjunction, disjunction, present}
 use Rattle.node.specs.Judged.{seen}
 
 -- a fact of each row of a list
 infixr 30 _▹_
-data Each (Q : Row → Type 0) : List Row → Type 0 where
+pub data Each (Q : Row → Type 0) : List Row → Type 0 where
   end : Each Q []
   _▹_ : {r : Row} {rs : List Row} → Q r → Each Q rs → Each Q (r ∷ rs)
 
@@ -26,7 +27,7 @@ each-at Q (r ∷ rs) zero (p ▹ ps) u = p
 each-at Q (r ∷ rs) (suc k) (p ▹ ps) u = each-at Q rs k ps u
 
 -- a fact of every row
-every : (Q : Row → Type 0) → Each Q rows → Q unknown → (k : ℕ) → Q (rowOf k)
+pub every : (Q : Row → Type 0) → Each Q rows → Q unknown → (k : ℕ) → Q (rowOf k)
 unfolding rowOf
 every Q p u k = each-at Q rows k p u
 
@@ -49,8 +50,22 @@ decided =
     ((λ w f v x y e. absurd (true-false e refl)) ▹ (λ w f v x y e. absurd (true-false e refl)) ▹ (λ w f v x y e. absurd (true-false e refl))
     ▹ (λ w f v x y e. absurd (true-false e refl)) ▹ (λ w f v x y e. absurd (true-false e refl)) ▹ (λ w f v x y e. absurd (true-false e refl))
     ▹ (λ w f v x y e. absurd (true-false e refl)) ▹ (λ w f v x y e. absurd (true-false e refl)) ▹ (λ w f v x y e. absurd (true-false e refl))
-    ▹ and-decided ▹ or-decided ▹ (λ w f v x y e. absurd (true-false e refl)) ▹ end)
+    ▹ and-decided ▹ or-decided ▹ (λ w f v x y e. absurd (true-false e refl)) ▹ (λ w f v x y e. absurd (true-false e refl))
+    ▹ (λ w f v x y e. absurd (true-false e refl)) ▹ end)
     (λ w f v x y e. absurd (true-false e refl))
+
+-- and the node is of type Bool
+abbrev BoolDecided : Row → Type 0
+BoolDecided r = (g : Given) (x : ℤ) → r .decides x ≡ true → r .gives g .sort ≡ 0
+
+pub decided-bool : (k : ℕ) → BoolDecided (rowOf k)
+decided-bool =
+    every BoolDecided
+    ((λ g x e. absurd (true-false e refl)) ▹ (λ g x e. absurd (true-false e refl)) ▹ (λ g x e. absurd (true-false e refl))
+    ▹ (λ g x e. absurd (true-false e refl)) ▹ (λ g x e. absurd (true-false e refl)) ▹ (λ g x e. absurd (true-false e refl))
+    ▹ (λ g x e. absurd (true-false e refl)) ▹ (λ g x e. absurd (true-false e refl)) ▹ (λ g x e. absurd (true-false e refl)) ▹ (λ g x e. refl)
+    ▹ (λ g x e. refl) ▹ (λ g x e. absurd (true-false e refl)) ▹ (λ g x e. absurd (true-false e refl)) ▹ (λ g x e. absurd (true-false e refl)) ▹ end)
+    (λ g x e. absurd (true-false e refl))
 
 -- ---- the verdicts that matter
 
@@ -69,7 +84,8 @@ cited =
     every Cited
     ((λ P w f u v x y a h. refl) ▹ (λ P w f u v x y a h. refl) ▹ (λ P w f u v x y a h. refl) ▹ (λ P w f u v x y a h. refl)
     ▹ (λ P w f u v x y a h. refl) ▹ (λ P w f u v x y a h. refl) ▹ (λ P w f u v x y a h. refl) ▹ (λ P w f u v x y a h. refl) ▹ present-cited
-    ▹ (λ P w f u v x y a h. refl) ▹ (λ P w f u v x y a h. refl) ▹ (λ P w f u v x y a h. refl) ▹ end)
+    ▹ (λ P w f u v x y a h. refl) ▹ (λ P w f u v x y a h. refl) ▹ (λ P w f u v x y a h. refl) ▹ (λ P w f u v x y a h. refl)
+    ▹ (λ P w f u v x y a h. refl) ▹ end)
     (λ P w f u v x y a h. refl)
 
 -- ---- only "and" and "or" are decided
@@ -88,4 +104,6 @@ undecided (suc (suc (suc (suc (suc (suc (suc (suc zero)))))))) d e x = refl
 undecided (suc (suc (suc (suc (suc (suc (suc (suc (suc zero))))))))) d e x = absurd (d refl)
 undecided (suc (suc (suc (suc (suc (suc (suc (suc (suc (suc zero)))))))))) d e x = absurd (e refl)
 undecided (suc (suc (suc (suc (suc (suc (suc (suc (suc (suc (suc zero))))))))))) d e x = refl
-undecided (suc (suc (suc (suc (suc (suc (suc (suc (suc (suc (suc (suc k)))))))))))) d e x = refl
+undecided (suc (suc (suc (suc (suc (suc (suc (suc (suc (suc (suc (suc zero)))))))))))) d e x = refl
+undecided (suc (suc (suc (suc (suc (suc (suc (suc (suc (suc (suc (suc (suc zero))))))))))))) d e x = refl
+undecided (suc (suc (suc (suc (suc (suc (suc (suc (suc (suc (suc (suc (suc (suc k)))))))))))))) d e x = refl

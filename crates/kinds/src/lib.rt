@@ -1,18 +1,21 @@
-// One node by its kind, apart from the checker's scan: its value and its range from those of its children, one arm for each of the kinds 0 to
-// 11, as its row in node/specs/Rows.antt says.
+// One node by its kind, apart from the checker's scan: its value and its range from those of its children, one arm for each of the
+// kinds 0 to 13, as its row in node/specs/Rows.antt says.
 ghost use mathlib.Core.Path.{_≡_};
 ghost use mathlib.Core.Bool.{true, not, _&&_, _||_};
-ghost use Prim.Native.Nat.{_+_, _≤_};
-ghost use lib.IntN.{pos, _+ℤ_, _-ℤ_, _*ℤ_};
+ghost use Prim.Native.Nat.{ℕ, _+_, _≤_};
+ghost use lib.IntN.{ℤ, pos, _+ℤ_, _-ℤ_, _*ℤ_};
+ghost use mathlib.Core.List.{List};
 ghost use lib.ListN.{getD};
-ghost use Rattle.signed.specs.Words.{bounded, num as wordNumber};
+ghost use Rattle.signed.specs.Words.{num as wordNumber};
 ghost use Rattle.signed.specs.Compare.{holds as comparison};
 ghost use Rattle.item.specs.Items.{span as itemSpan};
 ghost use Rattle.node.specs.Rows.{bit, isTrue, rowOf};
-ghost use Rattle.node.specs.Judged.{SmallKids, seen};
+ghost use Rattle.node.specs.Judged.{SmallKids};
+ghost use Rattle.kinds.specs.Inner.{secondsFrom, Wide, Leaf, Joint};
 use item::Item;
 use item::both;
 use item::compared;
+use item::converted;
 use item::difference;
 use item::either;
 use item::multiple;
@@ -26,23 +29,23 @@ use signed::same;
 use tables::word_entry;
 use words::Words;
 
-// Sums, differences and products that are known to lie in −M..M.
+// Sums, differences and products that are known to fit a word.
 fn add(a: i64, b: i64) -> i64
-    requires { ⌜ bounded (a +ℤ b) ≡ true ⌝ }
+    requires { ⌜ Wide (a +ℤ b) ⌝ }
     ensures { λ r. ⌜ r ≡ a +ℤ b ⌝ }
 {
     a + b
 }
 
 fn subtract(a: i64, b: i64) -> i64
-    requires { ⌜ bounded (a -ℤ b) ≡ true ⌝ }
+    requires { ⌜ Wide (a -ℤ b) ⌝ }
     ensures { λ r. ⌜ r ≡ a -ℤ b ⌝ }
 {
     a - b
 }
 
 fn multiply(a: i64, b: i64) -> i64
-    requires { ⌜ bounded (a *ℤ b) ≡ true ⌝ }
+    requires { ⌜ Wide (a *ℤ b) ⌝ }
     ensures { λ r. ⌜ r ≡ a *ℤ b ⌝ }
 {
     a * b
@@ -86,21 +89,46 @@ fn named(t: &[i64], w: Words) -> i64
     word_entry(t, num(w.w1))
 }
 
-// The value of a node of kind number k, known to lie in −M..M, from its words, the facts, the verdicts and its children's values.
-pub fn value_from(k: usize, w: Words, facts: &[i64], verdicts: &[i64], x: i64, y: i64) -> i64
-    requires { ⌜ bounded (rowOf k .value (seen w (now facts) (now verdicts) x y)) ≡ true ⌝ }
-    ensures { λ r. ⌜ r ≡ rowOf k .value (seen w (now (facts .entry)) (now (verdicts .entry)) x y) ⌝ }
+// The type of a literal: t and what word 2 adds.
+fn literal_sort(w: Words, t: usize) -> usize
+    requires { ⌜ (t ≤ 258) × (wordNumber (w .w2) ≤ 127) ⌝ }
+    ensures { λ r. ⌜ r ≡ t + wordNumber (w .w2) ⌝ }
+{
+    t + num(w.w2)
+}
+
+// The value of a node of kind number k that has no children, a duration in seconds. `fact` is the type of the fact that its words name, which is
+// read where k is 3. Apart from the others, for speed: only here is anything converted.
+pub fn leaf_from(k: usize, w: Words, fact: usize, facts: &[i64], verdicts: &[i64]) -> i64
+    requires { ⌜ Leaf k w (now facts) (now verdicts) ⌝ }
+    ensures { λ r. ⌜ ((f : ℕ) → (k ≡ 3 → fact ≡ f) → r ≡ secondsFrom k w f (now (facts .entry)) (now (verdicts .entry)) (pos 0) (pos 0)) ⌝ }
 {
     match k {
         0 => w.w1,
         1 => w.w1,
         2 => w.w1,
-        3 => named(facts, w),
+        3 => converted(fact, 261, named(facts, w)),
+        4..=7 => 0,
+        8 => named(verdicts, w),
+        9..=11 => 0,
+        12 => w.w1,
+        13 => converted(literal_sort(w, 258), 261, w.w1),
+        14.. => 0,
+    }
+}
+
+// The value of a node of kind number k that has children, from theirs, each duration in seconds.
+pub fn joint_from(k: usize, w: Words, x: i64, y: i64) -> i64
+    requires { ⌜ Joint k w x y ⌝ }
+    ensures { λ r. ⌜ ((f : ℕ) (facts verdicts : List ℤ) → r ≡ secondsFrom k w f facts verdicts x y) ⌝ }
+{
+    match k {
+        0..=3 => 0,
         4 => add(x, y),
         5 => subtract(x, y),
         6 => multiply(x, w.w2),
         7 => compare(w, x, y),
-        8 => named(verdicts, w),
+        8 => 0,
         9 => both_true(x, y),
         10 => either_true(x, y),
         11 => not_true(x),
@@ -120,12 +148,12 @@ pub fn decides(k: usize, x: i64) -> bool
     }
 }
 
-// The type and range of a literal: its type is t and what word 2 adds.
+// The type and range of a literal.
 fn literal_range(w: Words, t: usize) -> Item
-    requires { ⌜ (t ≤ 2) × (wordNumber (w .w2) ≤ 127) ⌝ }
+    requires { ⌜ (t ≤ 258) × (wordNumber (w .w2) ≤ 127) ⌝ }
     ensures { λ r. ⌜ r ≡ itemSpan (t + wordNumber (w .w2)) (w .w1) (w .w1) ⌝ }
 {
-    span(t + num(w.w2), w.w1, w.w1)
+    span(literal_sort(w, t), w.w1, w.w1)
 }
 
 // The type and range of a node of kind number k that its row takes.
@@ -150,6 +178,8 @@ pub fn range_from(k: usize, g: Given) -> Item
         9 => both(x, y),
         10 => either(x, y),
         11 => negation(x),
-        12.. => span(0, 0, 0),
+        12 => literal_range(w, 130),
+        13 => literal_range(w, 258),
+        14.. => span(0, 0, 0),
     }
 }

@@ -2,7 +2,7 @@
 -- Assumes nothing.
 use mathlib.Core.Path.{_≡_, refl}
 use mathlib.Core.Bool.{true, _&&_}
-use Prim.Native.Nat.{ℕ, zero, suc, _≤_}
+use Prim.Native.Nat.{ℕ, zero, suc, _+_, _≤_}
 use lib.IntN.{ℤ, pos}
 use lib.Signed.{leZ}
 use lib.ListN.{List·getD-eq-default}
@@ -13,14 +13,15 @@ use Rattle.tables.proofs.Bools.{true-false, and-left, and-right}
 use Rattle.signed.specs.Words.{eqZ, within, bounded}
 use Rattle.signed.proofs.Parts.{Le, le-true, eq-true}
 use Rattle.signed.proofs.Bounds.{Small, in-true, small-true, small-in}
-use Rattle.node.specs.FactTypes.{FactType, boolFact, intFact, enumFact, unknownFact, factTypeOf}
+use Rattle.node.specs.FactTypes.{FactType, boolFact, numberFact, intFact, enumFact, moneyFact, durationFact, unknownFact, factTypeOf}
 
--- min ≤ max, both within −M..M; the set is small; a Bool is 0 or 1
+-- min ≤ max, both within −M..M; the set and the type are small; a Bool is 0 or 1
 pub record Bounds (r : FactType) (min max : ℤ) (t : ℕ) : Type 0 where
   pub low : Small min
   pub high : Small max
   pub order : Le min max
   pub set : t ≤ 127
+  pub few : r .sort t ≤ 261
   pub bool : r .sort t ≡ 0 → (min ≡ pos 0) × (max ≡ pos 1)
 
 abbrev Lawful : FactType → Type 0
@@ -35,17 +36,19 @@ bool-lawful min max t p q =
       high = rw b (omega arith);
       order = rw (a, b) (omega arith);
       set = omega (arith, eqb-true t 0 q);
+      few = omega arith;
       bool = λ z. (a, b);
     }
 
-int-lawful : Lawful intFact
-int-lawful min max t p q =
+number-lawful : (s m : ℕ) → 1 ≤ s → m ≤ 127 → s + m ≤ 261 → Lawful (numberFact s m)
+number-lawful s m a b l min max t p q =
     let lower = and-left (bounded min && leZ min max) (bounded max) p in
     record {
       low = small-true min (and-left (bounded min) (leZ min max) lower);
       high = small-true max (and-right (bounded min && leZ min max) (bounded max) p);
       order = le-true min max (and-right (bounded min) (leZ min max) lower);
-      set = omega (arith, eqb-true t 0 q);
+      set = omega (arith, leb-true t m q);
+      few = omega (arith, leb-true t m q);
       bool = λ z. absurd (omega arith);
     }
 
@@ -58,6 +61,7 @@ enum-lawful min max t p q =
       high = small-in (record { small = omega arith }) (record { small = omega arith }) i;
       order = rw a (i .low);
       set = leb-true t 127 q;
+      few = omega (arith, leb-true t 127 q);
       bool = λ z. absurd (omega arith);
     }
 
@@ -67,10 +71,12 @@ unknown-lawful min max t p q = absurd (true-false p refl)
 pub fact-bounds : (k : ℕ) → Lawful (factTypeOf k)
 unfolding factTypeOf
 fact-bounds zero = bool-lawful
-fact-bounds (suc zero) = int-lawful
+fact-bounds (suc zero) = number-lawful 1 0 (omega arith) (omega arith) (omega arith)
 fact-bounds (suc (suc zero)) = enum-lawful
-fact-bounds (suc (suc (suc k))) = unknown-lawful
+fact-bounds (suc (suc (suc zero))) = number-lawful 130 127 (omega arith) (omega arith) (omega arith)
+fact-bounds (suc (suc (suc (suc zero)))) = number-lawful 258 3 (omega arith) (omega arith) (omega arith)
+fact-bounds (suc (suc (suc (suc (suc k))))) = unknown-lawful
 
-pub type-past : (k : ℕ) → 3 ≤ k → factTypeOf k ≡ unknownFact
+pub type-past : (k : ℕ) → 5 ≤ k → factTypeOf k ≡ unknownFact
 unfolding factTypeOf
-type-past k h = List·getD-eq-default (boolFact ∷ intFact ∷ enumFact ∷ []) unknownFact h
+type-past k h = List·getD-eq-default (boolFact ∷ intFact ∷ enumFact ∷ moneyFact ∷ durationFact ∷ []) unknownFact h

@@ -23,12 +23,12 @@ literal-few : (u : ℕ) (l h : ℤ) (t p m : ℕ) → t + p ≤ m → Few m (lit
 literal-few u l h t p m b g f x e =
     omega (arith, leb-true (num (g .words .w2)) p (and-left (leb (num (g .words .w2)) p) (within l (g .words .w1) h) e))
 
--- 129 is the type of an Enum of set 127
-pub sort-few : (k : ℕ) → Few 129 (rowOf k)
+-- 261 is the type of a Duration in seconds
+pub sort-few : (k : ℕ) → Few 261 (rowOf k)
 unfolding rowOf
-sort-few zero = literal-few 2 _ _ 1 0 129 (omega arith)
-sort-few (suc zero) = literal-few 2 _ _ 0 0 129 (omega arith)
-sort-few (suc (suc zero)) = literal-few 3 _ _ 2 127 129 (omega arith)
+sort-few zero = literal-few 2 _ _ 1 0 261 (omega arith)
+sort-few (suc zero) = literal-few 2 _ _ 0 0 261 (omega arith)
+sort-few (suc (suc zero)) = literal-few 3 _ _ 2 127 261 (omega arith)
 sort-few (suc (suc (suc zero))) = λ g f x e. f
 sort-few (suc (suc (suc (suc zero)))) = λ g f x e. x
 sort-few (suc (suc (suc (suc (suc zero))))) = λ g f x e. x
@@ -38,4 +38,6 @@ sort-few (suc (suc (suc (suc (suc (suc (suc (suc zero)))))))) = λ g f x e. omeg
 sort-few (suc (suc (suc (suc (suc (suc (suc (suc (suc zero))))))))) = λ g f x e. omega arith
 sort-few (suc (suc (suc (suc (suc (suc (suc (suc (suc (suc zero)))))))))) = λ g f x e. omega arith
 sort-few (suc (suc (suc (suc (suc (suc (suc (suc (suc (suc (suc zero))))))))))) = λ g f x e. omega arith
-sort-few (suc (suc (suc (suc (suc (suc (suc (suc (suc (suc (suc (suc k)))))))))))) = λ g f x e. absurd (true-false e refl)
+sort-few (suc (suc (suc (suc (suc (suc (suc (suc (suc (suc (suc (suc zero)))))))))))) = literal-few 3 _ _ 130 127 261 (omega arith)
+sort-few (suc (suc (suc (suc (suc (suc (suc (suc (suc (suc (suc (suc (suc zero))))))))))))) = literal-few 3 _ _ 258 3 261 (omega arith)
+sort-few (suc (suc (suc (suc (suc (suc (suc (suc (suc (suc (suc (suc (suc (suc k)))))))))))))) = λ g f x e. absurd (true-false e refl)

@@ -1,6 +1,6 @@
 -- A node by its row: what the arms of a match over the kinds need.
 -- Assumes nothing.
-use mathlib.Core.Path.{_≡_, refl, sym, subst}
+use mathlib.Core.Path.{_≡_, refl, sym, subst, ap₂, _∙_}
 use mathlib.Core.Bool.{Bool, true, false, _&&_}
 use Prim.Native.Nat.{ℕ, zero, suc, zero-le, _≤_, _<_}
 use native.Mathlib.Omega.{arith}
@@ -15,8 +15,8 @@ use Rattle.item.specs.declared.Item.{Item}
 use Rattle.item.specs.Items.{small}
 use Rattle.item.specs.Inner.{Small}
 use Rattle.node.specs.declared.Given.{Given}
-use Rattle.node.specs.Rows.{Row, unknown, rows, rowOf, fits}
-use Rattle.node.specs.Judged.{bad, keep, judged}
+use Rattle.node.specs.Rows.{Row, unknown, rows, rowOf, fits, converts}
+use Rattle.node.specs.Judged.{bad, keep, judged, judgedParent, SmallKids}
 
 -- a row that takes what it is given
 pub accepted : (r : Row) (g : Given) (t : Bool) → r .takes g ≡ t
@@ -41,7 +41,7 @@ pub past : (n k : ℕ) → Past n k → n ≤ k
 past zero k p = zero-le
 past (suc n) k p = up (past n k (p .0)) (p .1)
 
-pub row-past : (k : ℕ) → 12 ≤ k → rowOf k ≡ unknown
+pub row-past : (k : ℕ) → 14 ≤ k → rowOf k ≡ unknown
 unfolding rowOf
 row-past k h = List·getD-eq-default rows unknown h
 
@@ -58,3 +58,26 @@ part-out {p} {m} w e h = lt-leb (num w) m (subst (λ (z : ℕ). m < z) e h)
 pub small-of : (x : Item) → small x ≡ true → Small x
 unfolding small
 small-of x e = record { low = and-left (bounded (x .low)) (bounded (x .high)) e; high = and-right (bounded (x .low)) (bounded (x .high)) e }
+
+pub smalls : (g : Given) → converts g ≡ true → SmallKids g
+unfolding converts
+smalls g e =
+    record { x = small-of (g .x) (and-left (small (g .x)) (small (g .y)) e); y = small-of (g .y) (and-right (small (g .x)) (small (g .y)) e) }
+
+-- ---- a node with children, by the tests of their ranges
+
+module _ (g : Given) {a b : Bool} (p : a ≡ small (g .x)) (q : b ≡ small (g .y)) where
+  tested : (a && b) ≡ converts g
+  unfolding converts
+  tested = ap₂ _&&_ p q
+
+  pub kids-small : (a && b) ≡ true → SmallKids g
+  kids-small e = smalls g (sym tested ∙ e)
+
+  pub parent-judged : (r : Row) → (a && b) ≡ true → judged r g ≡ judgedParent r g
+  unfolding judgedParent
+  parent-judged r e = rw (sym tested ∙ e)
+
+  pub parent-bad : (r : Row) → (a && b) ≡ false → bad ≡ judgedParent r g
+  unfolding judgedParent
+  parent-bad r e = rw (sym tested ∙ e)

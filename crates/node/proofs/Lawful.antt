@@ -1,7 +1,7 @@
 -- The one fact about a kind: where the values of the children lie in their ranges, the node's value lies in its range; and what is of type
 -- Bool is 0 or 1.
 -- Assumes nothing.
-use mathlib.Core.Path.{_≡_, refl}
+use mathlib.Core.Path.{_≡_, refl, subst}
 use mathlib.Core.Bool.{Bool, true, false, not, cond, _&&_, _||_}
 use mathlib.Core.List.{List, [], _∷_}
 use Prim.Native.Nat.{ℕ, zero, suc}
@@ -18,10 +18,12 @@ use Rattle.signed.proofs.Bounds.{In, in-true, in-plus, in-minus, in-min, in-max
 use Rattle.signed.proofs.Pairs.{hold-in, fail-in}
 use Rattle.item.specs.declared.Item.{Item}
 use Rattle.item.specs.Sorts.{isNumber}
-use Rattle.item.specs.Items.{compared}
+use Rattle.item.specs.Units.{converted}
+use Rattle.item.specs.Items.{compared, align}
+use Rattle.item.proofs.Units.{shared-bool, converted-stays, align-in}
 use Rattle.item.proofs.Products.{multiple-in, multiple-sort}
 use Rattle.node.specs.declared.Given.{Given}
-use Rattle.node.specs.Rows.{Row, Seen, bit, isTrue, literal, numbers, bools, intLiteral, boolLiteral, enumLiteral, factNamed, sums, differences, product, comparison, present, conjunction, disjunction, negated, unknown, rowOf}
+use Rattle.node.specs.Rows.{Row, Seen, bit, isTrue, literal, numbers, bools, intLiteral, boolLiteral, enumLiteral, factNamed, sums, differences, product, comparison, present, conjunction, disjunction, negated, moneyLiteral, durationLiteral, unknown, rowOf}
 use Rattle.node.proofs.Truth.{IsBool, bit-bool, both-min, either-max, negate-minus}
 
 -- the value v is one of x's range and type
@@ -31,6 +33,17 @@ pub record Of (x : Item) (v : ℤ) : Type 0 where
 
 abbrev pub seen : Given → List ℤ → List ℤ → ℤ → ℤ → Seen
 seen g facts verdicts x y = record { words = g .words; facts = facts; verdicts = verdicts; x = x; y = y }
+
+-- what is converted stays of its type and range
+pub align-of : (x y : Item) (v : ℤ) → Of x v → Of (align x y) (converted (x .sort) (y .sort) v)
+unfolding align
+align-of x y v o =
+    record {
+      inside = align-in x y v (o .inside);
+      bool = λ z.
+          let b = shared-bool (x .sort) (y .sort) z in
+          rw (converted-stays (x .sort) (y .sort) v (rw b)) (o .bool b);
+    }
 
 -- the facts, the verdicts and the children's values are of the types and ranges that the node is given
 pub record Known (g : Given) (facts verdicts : List ℤ) (v w : ℤ) : Type 0 where
@@ -68,7 +81,8 @@ compared-in op f g x y i j = go (holds op x y) refl
 
 -- a number is no Bool
 number-pair : (x y : Item) → numbers x y ≡ true → x .sort ≡ 0 → ⊥
-number-pair x y e z = omega (arith, eqb-true (x .sort) 1 (and-right (eqb (x .sort) (y .sort)) (isNumber (x .sort)) e))
+number-pair x y e z =
+    true-false (subst (λ (t : ℕ). isNumber t ≡ true) z (and-right (eqb (x .sort) (y .sort)) (isNumber (x .sort)) e)) refl
 
 -- two children of type Bool
 bool-pair : (x y : Item) (v w : ℤ) → bools x y ≡ true → Of x v → Of y w → IsBool v × IsBool w
@@ -167,6 +181,8 @@ table =
     ∷ by conjunction conjunction-lawful
     ∷ by disjunction disjunction-lawful
     ∷ by negated negated-lawful
+    ∷ by moneyLiteral (literal-lawful 3 (negℤ (pos big)) (pos big) 130 127 (λ z. absurd (omega arith)))
+    ∷ by durationLiteral (literal-lawful 3 (negℤ (pos big)) (pos big) 258 3 (λ z. absurd (omega arith)))
     ∷ []
 
 pub lawful : (k : ℕ) → Lawful (rowOf k)

@@ -25,7 +25,9 @@ cites-none (suc (suc (suc (suc (suc (suc (suc (suc zero)))))))) d w = absurd (d 
 cites-none (suc (suc (suc (suc (suc (suc (suc (suc (suc zero))))))))) d w = refl
 cites-none (suc (suc (suc (suc (suc (suc (suc (suc (suc (suc zero)))))))))) d w = refl
 cites-none (suc (suc (suc (suc (suc (suc (suc (suc (suc (suc (suc zero))))))))))) d w = refl
-cites-none (suc (suc (suc (suc (suc (suc (suc (suc (suc (suc (suc (suc k)))))))))))) d w = refl
+cites-none (suc (suc (suc (suc (suc (suc (suc (suc (suc (suc (suc (suc zero)))))))))))) d w = refl
+cites-none (suc (suc (suc (suc (suc (suc (suc (suc (suc (suc (suc (suc (suc zero))))))))))))) d w = refl
+cites-none (suc (suc (suc (suc (suc (suc (suc (suc (suc (suc (suc (suc (suc (suc k)))))))))))))) d w = refl
 
 -- g with another fact
 abbrev pub withFact : Item → Given → Given
@@ -45,30 +47,38 @@ fact-unread (suc (suc (suc (suc (suc (suc (suc (suc zero)))))))) d g f = refl
 fact-unread (suc (suc (suc (suc (suc (suc (suc (suc (suc zero))))))))) d g f = refl
 fact-unread (suc (suc (suc (suc (suc (suc (suc (suc (suc (suc zero)))))))))) d g f = refl
 fact-unread (suc (suc (suc (suc (suc (suc (suc (suc (suc (suc (suc zero))))))))))) d g f = refl
-fact-unread (suc (suc (suc (suc (suc (suc (suc (suc (suc (suc (suc (suc k)))))))))))) d g f = refl
+fact-unread (suc (suc (suc (suc (suc (suc (suc (suc (suc (suc (suc (suc zero)))))))))))) d g f = refl
+fact-unread (suc (suc (suc (suc (suc (suc (suc (suc (suc (suc (suc (suc (suc zero))))))))))))) d g f = refl
+fact-unread (suc (suc (suc (suc (suc (suc (suc (suc (suc (suc (suc (suc (suc (suc k)))))))))))))) d g f = refl
 
 -- ---- which kinds have children
 
-no-cons : (a : ℕ) (cs : List ℕ) → a ∷ cs ≡ [] → ⊥
+pub no-cons : (a : ℕ) (cs : List ℕ) → a ∷ cs ≡ [] → ⊥
 no-cons a cs e = let z : _≡_ {A = ℕ} 0 1 = cc in omega arith
 
--- a node without children is of one of the kinds 0 to 3 and 8, or is bad
-pub leaf-rest : (k : ℕ) (g : Given) → (k ≡ 0 → ⊥) → (k ≡ 1 → ⊥) → (k ≡ 2 → ⊥) → (k ≡ 3 → ⊥) → (k ≡ 8 → ⊥)
-    → rowOf k .children (g .words) ≡ [] → bad ≡ judged (rowOf k) g
+-- a node without children is of one of the kinds 0 to 3, 8, 12 and 13, or of none
+pub leaf-unknown : (k : ℕ) (w : Words) → (k ≡ 0 → ⊥) → (k ≡ 1 → ⊥) → (k ≡ 2 → ⊥) → (k ≡ 3 → ⊥) → (k ≡ 8 → ⊥) → (k ≡ 12 → ⊥) → (k ≡ 13 → ⊥)
+    → rowOf k .children w ≡ [] → rowOf k ≡ unknown
 unfolding rowOf
-leaf-rest zero g a b c d f e = absurd (a refl)
-leaf-rest (suc zero) g a b c d f e = absurd (b refl)
-leaf-rest (suc (suc zero)) g a b c d f e = absurd (c refl)
-leaf-rest (suc (suc (suc zero))) g a b c d f e = absurd (d refl)
-leaf-rest (suc (suc (suc (suc zero)))) g a b c d f e = absurd (no-cons _ _ e)
-leaf-rest (suc (suc (suc (suc (suc zero))))) g a b c d f e = absurd (no-cons _ _ e)
-leaf-rest (suc (suc (suc (suc (suc (suc zero)))))) g a b c d f e = absurd (no-cons _ _ e)
-leaf-rest (suc (suc (suc (suc (suc (suc (suc zero))))))) g a b c d f e = absurd (no-cons _ _ e)
-leaf-rest (suc (suc (suc (suc (suc (suc (suc (suc zero)))))))) g a b c d f e = absurd (f refl)
-leaf-rest (suc (suc (suc (suc (suc (suc (suc (suc (suc zero))))))))) g a b c d f e = absurd (no-cons _ _ e)
-leaf-rest (suc (suc (suc (suc (suc (suc (suc (suc (suc (suc zero)))))))))) g a b c d f e = absurd (no-cons _ _ e)
-leaf-rest (suc (suc (suc (suc (suc (suc (suc (suc (suc (suc (suc zero))))))))))) g a b c d f e = absurd (no-cons _ _ e)
-leaf-rest (suc (suc (suc (suc (suc (suc (suc (suc (suc (suc (suc (suc k)))))))))))) g a b c d f e = refused unknown g refl
+leaf-unknown zero w a b c d f i j e = absurd (a refl)
+leaf-unknown (suc zero) w a b c d f i j e = absurd (b refl)
+leaf-unknown (suc (suc zero)) w a b c d f i j e = absurd (c refl)
+leaf-unknown (suc (suc (suc zero))) w a b c d f i j e = absurd (d refl)
+leaf-unknown (suc (suc (suc (suc zero)))) w a b c d f i j e = absurd (no-cons _ _ e)
+leaf-unknown (suc (suc (suc (suc (suc zero))))) w a b c d f i j e = absurd (no-cons _ _ e)
+leaf-unknown (suc (suc (suc (suc (suc (suc zero)))))) w a b c d f i j e = absurd (no-cons _ _ e)
+leaf-unknown (suc (suc (suc (suc (suc (suc (suc zero))))))) w a b c d f i j e = absurd (no-cons _ _ e)
+leaf-unknown (suc (suc (suc (suc (suc (suc (suc (suc zero)))))))) w a b c d f i j e = absurd (f refl)
+leaf-unknown (suc (suc (suc (suc (suc (suc (suc (suc (suc zero))))))))) w a b c d f i j e = absurd (no-cons _ _ e)
+leaf-unknown (suc (suc (suc (suc (suc (suc (suc (suc (suc (suc zero)))))))))) w a b c d f i j e = absurd (no-cons _ _ e)
+leaf-unknown (suc (suc (suc (suc (suc (suc (suc (suc (suc (suc (suc zero))))))))))) w a b c d f i j e = absurd (no-cons _ _ e)
+leaf-unknown (suc (suc (suc (suc (suc (suc (suc (suc (suc (suc (suc (suc zero)))))))))))) w a b c d f i j e = absurd (i refl)
+leaf-unknown (suc (suc (suc (suc (suc (suc (suc (suc (suc (suc (suc (suc (suc zero))))))))))))) w a b c d f i j e = absurd (j refl)
+leaf-unknown (suc (suc (suc (suc (suc (suc (suc (suc (suc (suc (suc (suc (suc (suc k)))))))))))))) w a b c d f i j e = refl
+
+pub leaf-rest : (k : ℕ) (g : Given) → (k ≡ 0 → ⊥) → (k ≡ 1 → ⊥) → (k ≡ 2 → ⊥) → (k ≡ 3 → ⊥) → (k ≡ 8 → ⊥) → (k ≡ 12 → ⊥) → (k ≡ 13 → ⊥)
+    → rowOf k .children (g .words) ≡ [] → bad ≡ judged (rowOf k) g
+leaf-rest k g a b c d f i j e = rw (leaf-unknown k (g .words) a b c d f i j e) (refused unknown g refl)
 
 -- a node with children is of another kind
 pub parent-rest : (k : ℕ) (w : Words) → (k ≡ 4 → ⊥) → (k ≡ 5 → ⊥) → (k ≡ 6 → ⊥) → (k ≡ 7 → ⊥) → (k ≡ 9 → ⊥) → (k ≡ 10 → ⊥) → (k ≡ 11 → ⊥)
@@ -86,7 +96,9 @@ parent-rest (suc (suc (suc (suc (suc (suc (suc (suc zero)))))))) w a b c d e f i
 parent-rest (suc (suc (suc (suc (suc (suc (suc (suc (suc zero))))))))) w a b c d e f i p = e refl
 parent-rest (suc (suc (suc (suc (suc (suc (suc (suc (suc (suc zero)))))))))) w a b c d e f i p = f refl
 parent-rest (suc (suc (suc (suc (suc (suc (suc (suc (suc (suc (suc zero))))))))))) w a b c d e f i p = i refl
-parent-rest (suc (suc (suc (suc (suc (suc (suc (suc (suc (suc (suc (suc k)))))))))))) w a b c d e f i p = p refl
+parent-rest (suc (suc (suc (suc (suc (suc (suc (suc (suc (suc (suc (suc zero)))))))))))) w a b c d e f i p = p refl
+parent-rest (suc (suc (suc (suc (suc (suc (suc (suc (suc (suc (suc (suc (suc zero))))))))))))) w a b c d e f i p = p refl
+parent-rest (suc (suc (suc (suc (suc (suc (suc (suc (suc (suc (suc (suc (suc (suc k)))))))))))))) w a b c d e f i p = p refl
 
 -- so it names no fact and cites no rule
 pub parent-other : (k : ℕ) (w : Words) → (rowOf k .children w ≡ [] → ⊥) → (k ≡ 3 → ⊥) × (k ≡ 8 → ⊥)

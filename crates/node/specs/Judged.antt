@@ -11,7 +11,7 @@ use Rattle.item.specs.Inner.{Small}
 use Rattle.node.specs.declared.Given.{Given}
 use Rattle.node.specs.declared.Judgement.{Judgement}
 use Rattle.node.specs.declared.Kids.{Kids}
-use Rattle.node.specs.Rows.{Row, Seen, fits}
+use Rattle.node.specs.Rows.{Row, Seen, fits, converts}
 
 abbrev pub bad : Judgement
 bad = record { good = false; item = none }
@@ -22,6 +22,10 @@ keep t x = cond t (record { good = true; item = x }) bad
 
 unfoldable pub judged : Row → Given → Judgement
 judged r g = keep (fits r g) (r .gives g)
+
+-- a node with children: bad too where a converted range leaves −M..M
+unfoldable pub judgedParent : Row → Given → Judgement
+judgedParent r g = cond (converts g) (judged r g) bad
 
 -- what the arithmetic of a node asks: its children's ranges are in −M..M
 pub record SmallKids (g : Given) : Type 0 where

@@ -1,4 +1,4 @@
--- 01, "Node", "Types" and "Every node has a value range": one row for each kind.
+-- 01, "Node", "Types" and "Every node has a value range", and 02, CR 4: one row for each kind. Two durations come to a row in one unit.
 -- Assumes nothing.
 use Prim.Native.Nat.{ℕ, _+_}
 use lib.IntN.{ℤ, pos, negℤ, _+ℤ_, _-ℤ_, _*ℤ_}
@@ -15,7 +15,7 @@ use Rattle.item.specs.Sorts.{isNumber}
 use Rattle.item.specs.Items.{span, none, small, sum, difference, multiple, compared, both, either, negation}
 use Rattle.node.specs.declared.Given.{Given}
 
--- what a node's value is worked out from: its words, the facts, the verdicts, and the values of its children, 0 where there is none
+-- what a node's value is worked out from: its words, the facts, the verdicts, and the converted values of its children, 0 where there is none
 pub record Seen : Type 0 where
   pub words : Words
   pub facts : List ℤ
@@ -88,7 +88,7 @@ pair takes gives decides value =
 
 -- ---- the types that are taken
 
--- two numbers of one type
+-- two numbers of one type: Int, Money of one currency, Durations
 abbrev pub numbers : Item → Item → Bool
 numbers x y = eqb (x .sort) (y .sort) && isNumber (x .sort)
 
@@ -126,7 +126,7 @@ sums = pair numbers sum (λ x. false) (λ x y. x +ℤ y)
 abbrev pub differences : Row
 differences = pair numbers difference (λ x. false) (λ x y. x -ℤ y)
 
--- 6 product: a node, a literal −M..M; it takes Int
+-- 6 product: a node, a literal −M..M; it takes Int alone
 abbrev pub product : Row
 product =
     single 3 (λ g. bounded (g .words .w2) && eqb (g .x .sort) 1) (λ g. multiple (g .words .w2) (g .x)) (λ s. s .x *ℤ s .words .w2)
@@ -160,14 +160,23 @@ disjunction = pair bools either isTrue (λ x y. bit (isTrue x || isTrue y))
 abbrev pub negated : Row
 negated = single 2 (λ g. eqb (g .x .sort) 0) (λ g. negation (g .x)) (λ s. bit (not (isTrue (s .x))))
 
+-- 12 Money literal v (−M..M), currency (0..127)
+abbrev pub moneyLiteral : Row
+moneyLiteral = literal 3 (negℤ (pos big)) (pos big) 130 127
+
+-- 13 Duration literal v (−M..M), unit (0..3)
+abbrev pub durationLiteral : Row
+durationLiteral = literal 3 (negℤ (pos big)) (pos big) 258 3
+
 -- "a kind not listed makes its record bad"
 abbrev pub unknown : Row
 unknown = leaf 0 (λ w. []) (λ g. false) (λ g. none) (λ s. pos 0)
 
--- the kinds 0 to 11, in order
+-- the kinds 0 to 13, in order
 abbrev pub rows : List Row
 rows =
-    intLiteral ∷ boolLiteral ∷ enumLiteral ∷ factNamed ∷ sums ∷ differences ∷ product ∷ comparison ∷ present ∷ conjunction ∷ disjunction ∷ negated ∷ []
+    intLiteral ∷ boolLiteral ∷ enumLiteral ∷ factNamed ∷ sums ∷ differences ∷ product ∷ comparison ∷ present ∷ conjunction ∷ disjunction ∷ negated
+    ∷ moneyLiteral ∷ durationLiteral ∷ []
 
 unfoldable pub rowOf : ℕ → Row
 rowOf k = getD rows k unknown
@@ -175,3 +184,7 @@ rowOf k = getD rows k unknown
 -- the node is as its row wants it: unused words are 0, its row takes what it is given, and its range stays within −M..M
 unfoldable pub fits : Row → Given → Bool
 fits r g = unused (r .used) (numbersOf (g .words)) && r .takes g && small (r .gives g)
+
+-- 02, CR 4: "the −M..M test applies .. to each converted range"
+unfoldable pub converts : Given → Bool
+converts g = small (g .x) && small (g .y)

@@ -1,9 +1,10 @@
-// A node by its kind: one arm for each of the kinds 0 to 11, as its row in specs/Rows.antt says.
+// A node by its kind: one arm for each of the kinds 0 to 13, as its row in specs/Rows.antt says.
 ghost use mathlib.Core.Path.{_≡_};
 ghost use mathlib.Core.Bool.{_&&_};
 ghost use mathlib.Core.List.{[], _∷_};
 ghost use Prim.Native.Nat.{_≤_};
 ghost use Rattle.signed.specs.Words.{num as wordNumber};
+ghost use Rattle.item.specs.Sorts.{isNumber};
 ghost use Rattle.item.specs.Items.{small as smallItem};
 ghost use Rattle.words.specs.Record.{numbersOf, unused as unusedWords};
 ghost use Rattle.node.specs.Rows as rows;
@@ -25,7 +26,7 @@ use words::numbers_of;
 use words::unused;
 
 // What a node is worked out from: its words, how many facts and rules there are, the type and range of the fact that it names, and those of
-// its children.
+// its children, converted.
 pub struct Given {
     pub words: Words,
     pub facts: usize,
@@ -65,10 +66,17 @@ fn keep(good: bool, item: Item) -> Judgement
     }
 }
 
+// Whether a type is Int, Money or Duration.
+fn is_number(t: usize) -> bool
+    ensures { λ r. ⌜ r ≡ isNumber t ⌝ }
+{
+    (t == 1) | (130 <= t)
+}
+
 fn numbers(x: Item, y: Item) -> bool
     ensures { λ r. ⌜ r ≡ rows.numbers x y ⌝ }
 {
-    (x.sort == y.sort) & (x.sort == 1)
+    (x.sort == y.sort) & is_number(x.sort)
 }
 
 fn bools(x: Item, y: Item) -> bool
@@ -80,7 +88,7 @@ fn bools(x: Item, y: Item) -> bool
 fn comparable(op: usize, x: Item, y: Item) -> bool
     ensures { λ r. ⌜ r ≡ rows.comparable op x y ⌝ }
 {
-    (op <= 5) & (x.sort == y.sort) & ((op < 2) | (x.sort == 1))
+    (op <= 5) & (x.sort == y.sort) & ((op < 2) | is_number(x.sort))
 }
 
 // The node of item x, where its words past `used` are 0, its kind takes what it is given, and x lies in −M..M.
@@ -92,7 +100,7 @@ fn checked(used: usize, g: Given, takes: bool, x: Item) -> Judgement
 }
 
 fn literal(g: Given, used: usize, low: i64, high: i64, t: usize, m: usize) -> Judgement
-    requires { ⌜ (t ≤ 2) × (m ≤ 127) ⌝ }
+    requires { ⌜ (t ≤ 258) × (m ≤ 127) ⌝ }
     ensures { λ r. ⌜ r ≡ judged.judged (rows.literal used low high t m) g ⌝ }
 {
     let w = g.words;
@@ -199,12 +207,15 @@ pub fn judge_leaf(k: usize, g: Given) -> Judgement
         3 => fact_named(g),
         4..=7 => bad(),
         8 => present(g),
-        9.. => bad(),
+        9..=11 => bad(),
+        12 => literal(g, 3, -1_000_000_000, 1_000_000_000, 130, 127),
+        13 => literal(g, 3, -1_000_000_000, 1_000_000_000, 258, 3),
+        14.. => bad(),
     }
 }
 
-// A node of kind number k that has children.
-pub fn judge_parent(k: usize, g: Given) -> Judgement
+// A node of kind number k that has children, whose ranges lie in −M..M.
+fn judge_by_kind(k: usize, g: Given) -> Judgement
     requires { ⌜ judged.SmallKids g × (rows.rowOf k .children (g .words) ≡ [] → ⊥) ⌝ }
     ensures { λ r. ⌜ r ≡ judged.judged (rows.rowOf k) g ⌝ }
 {
@@ -219,6 +230,20 @@ pub fn judge_parent(k: usize, g: Given) -> Judgement
         10 => disjunction(g),
         11 => negated(g),
         12.. => bad(),
+    }
+}
+
+// A node of kind number k that has children.
+pub fn judge_parent(k: usize, g: Given) -> Judgement
+    requires { ⌜ (rows.rowOf k .children (g .words) ≡ [] → ⊥) ⌝ }
+    ensures { λ r. ⌜ r ≡ judged.judgedParent (rows.rowOf k) g ⌝ }
+{
+    let x = g.x;
+    let y = g.y;
+    if small(x) & small(y) {
+        judge_by_kind(k, g)
+    } else {
+        bad()
     }
 }
 
@@ -282,6 +307,8 @@ pub fn children(k: usize, w: Words) -> Kids
         9 => two_kids(w),
         10 => two_kids(w),
         11 => one_kid(w),
-        12.. => no_kids(),
+        12 => no_kids(),
+        13 => no_kids(),
+        14.. => no_kids(),
     }
 }

@@ -8,7 +8,7 @@ use native.Mathlib.Omega.{arith}
 use Rattle.layout.specs.declared.Header.{Header}
 use Rattle.layout.specs.Header.{firstNode}
 use Rattle.records.specs.Accepted.{Accepted}
-use Rattle.tree.specs.Inner.{BaseOf, NodeAt}
+use Rattle.tree.specs.Inner.{NodeAt}
 use Rattle.predicate.specs.Inner.{Evaluable}
 use Rattle.predicate.specs.Base.{EvaluableAt, RangeAt}
 
@@ -19,7 +19,7 @@ range-at {s} {h} {n} a l =
 
 pub evaluable-at : {s : List ℤ} {h : Header} {facts verdicts : List ℤ} {n : ℕ} → Evaluable s h facts verdicts n
     → EvaluableAt s (firstNode h) facts verdicts n
-evaluable-at v = let e = v .accepted .header in record { first = ap firstNode e; over = rw e at v }
+evaluable-at v = let o = v .over in let e = o .accepted .header in record { first = ap firstNode e; over = rw e at o }
 
 -- a node that can be evaluated is there, and so is one whose range can be worked out
 pub there : {s : List ℤ} {base : ℕ} {facts verdicts : List ℤ} {n : ℕ} → EvaluableAt s base facts verdicts n → NodeAt s base n
@@ -27,9 +27,6 @@ there v = record { first = v .first; accepted = v .over .accepted; exists = v .o
 
 pub ranged : {s : List ℤ} {base rules n : ℕ} → RangeAt s base rules n → NodeAt s base n
 ranged v = record { first = v .first; accepted = v .accepted; exists = v .exists }
-
-pub base-of : {s : List ℤ} {base rules n : ℕ} → RangeAt s base rules n → BaseOf s base
-base-of v = record { first = v .first; accepted = v .accepted }
 
 -- a node before it is there too
 pub lower-range : {s : List ℤ} {base rules n a : ℕ} → RangeAt s base rules n → a < n → RangeAt s base rules a

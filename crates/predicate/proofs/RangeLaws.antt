@@ -9,7 +9,7 @@ use lib.IntN.{ℤ, pos}
 use native.Mathlib.Omega.{arith}
 use Rattle.tables.specs.Table.{grown, entry}
 use Rattle.tables.specs.Lists.{pick}
-use Rattle.tables.proofs.Lists.{Before}
+use Rattle.tables.proofs.Lists.{Before, pick-all}
 use Rattle.tables.proofs.Grown.{length-grown, grown-at}
 use Rattle.signed.specs.Compare.{canHold, canFail}
 use Rattle.signed.specs.Inner.{Pair}
@@ -21,21 +21,22 @@ use Rattle.signed.specs.Words.{num, bounded, within}
 use Rattle.layout.specs.declared.Header.{Header}
 use Rattle.layout.specs.Header.{headerOf, firstNode}
 use Rattle.item.specs.declared.Item.{Item}
-use Rattle.item.specs.Items.{none, span, compared}
+use Rattle.item.specs.Items.{none, span, align, compared}
+use Rattle.item.proofs.Units.{align-order}
 use Rattle.item.specs.Inner.{Small}
 use Rattle.node.specs.declared.Given.{Given}
 use Rattle.node.specs.declared.Kids.{Kids}
 use Rattle.node.specs.Rows.{Row, comparison, rowOf, fits}
-use Rattle.node.specs.Judged.{kids}
+use Rattle.node.specs.Judged.{SmallKids, kids}
 use Rattle.records.specs.Accepted.{Accepted}
 use Rattle.records.specs.Facts.{minOf}
 use Rattle.records.specs.Nodes.{nodeWords, nodeRow, childrenOf, namedFact, givenOf, itemOf}
 use Rattle.records.proofs.FactLaws.{fact-ok}
-use Rattle.records.proofs.NodeLaws.{node-ok}
+use Rattle.records.proofs.NodeLaws.{NodeOk, node-ok}
 use Rattle.facts.specs.Inner.{FactsIn}
 use Rattle.predicate.specs.Verdicts.{verdictsOf}
-use Rattle.tree.specs.Inner.{rowAt, childrenAt}
-use Rattle.predicate.specs.Base.{givenAt, RangeAt}
+use Rattle.tree.specs.Inner.{rowAt, childrenAt, BaseOf}
+use Rattle.predicate.specs.Base.{givenAt, Rangeable, RangeAt}
 use Rattle.tree.proofs.TreeLaws.{none-named, one-named, two-named}
 use Rattle.predicate.proofs.BaseLaws.{ranged}
 use Rattle.predicate.proofs.ValueLaws.{Within, value-in}
@@ -86,15 +87,21 @@ module _ {s : List ℤ} {h : Header} (a : Accepted s h) where
   range-some n l = omega (arith, value-in s h least (verdictsOf s h least) a least-in (verdicts-true s h least) n l)
 
   module _ (n : ℕ) (l : n < h .nodes) (k : num (nodeWords s h n .w0) ≡ 7) where
-    -- the operator and the children of a comparison
+    -- the operator and the children of a comparison, each converted to the unit that it shares with the other
     abbrev op : ℕ
     op = num (nodeWords s h n .w1)
 
+    abbrev first : Item
+    first = itemOf s h (num (nodeWords s h n .w2))
+
+    abbrev second : Item
+    second = itemOf s h (num (nodeWords s h n .w3))
+
     abbrev left : Item
-    left = itemOf s h (num (nodeWords s h n .w2))
+    left = align first second
 
     abbrev right : Item
-    right = itemOf s h (num (nodeWords s h n .w3))
+    right = align second first
 
     row-is : nodeRow s h n ≡ comparison
     unfolding rowOf
@@ -103,6 +110,9 @@ module _ {s : List ℤ} {h : Header} (a : Accepted s h) where
     before : Before n (num (nodeWords s h n .w2) ∷ num (nodeWords s h n .w3) ∷ [])
     before = subst (λ (r : Row). Before n (r .children (nodeWords s h n))) row-is (node-ok s h n (a .nodes n l) .before)
 
+    abbrev kid : Row → ℕ → Item
+    kid r i = pick (itemOf s h) none (r .children (nodeWords s h n)) i
+
     abbrev given : Row → Given
     given r =
         record {
@@ -110,26 +120,31 @@ module _ {s : List ℤ} {h : Header} (a : Accepted s h) where
           facts = h .facts;
           rules = h .rules;
           fact = namedFact s (h .facts) op;
-          x = pick (itemOf s h) none (r .children (nodeWords s h n)) 0;
-          y = pick (itemOf s h) none (r .children (nodeWords s h n)) 1;
+          x = align (kid r 0) (kid r 1);
+          y = align (kid r 1) (kid r 0);
         }
 
     compared-is : itemOf s h n ≡ compared op left right
     unfolding pick
     compared-is = node-ok s h n (a .nodes n l) .item ∙ ap (λ (r : Row). r .gives (given r)) row-is
 
+    left-some : Le (left .low) (left .high)
+    left-some = align-order first second (range-some _ (omega (arith, before .0)))
+
+    right-some : Le (right .low) (right .high)
+    right-some = align-order second first (range-some _ (omega (arith, before .1 .0)))
+
     -- 01: "Comparison: includes 1 if some pair of values from the two ranges satisfies it", and only then
     pub includes-one : Within (itemOf s h n) (pos 1) ↔ PairIn op true left right
-    includes-one = rw compared-is (compared-one op left right (range-some _ (omega (arith, before .0))) (range-some _ (omega (arith, before .1 .0))))
+    includes-one = rw compared-is (compared-one op left right left-some right-some)
 
     -- 01: "and 0 if some pair does not", and only then
     pub includes-zero : Within (itemOf s h n) (pos 0) ↔ PairIn op false left right
-    includes-zero =
-        rw compared-is (compared-zero op left right (range-some _ (omega (arith, before .0))) (range-some _ (omega (arith, before .1 .0))))
+    includes-zero = rw compared-is (compared-zero op left right left-some right-some)
 
 -- ---- a node's range as it is worked out
 
-pub none-small : Small none
+none-small : Small none
 unfolding bounded within
 none-small = record { low = refl; high = refl }
 
@@ -137,8 +152,13 @@ module _ {s : List ℤ} {base rules n : ℕ} (v : RangeAt s base rules n) where
   abbrev item : ℕ → Item
   item j = itemOf s (headerOf s) j
 
-  pub item-small : Small (item n)
-  item-small = node-ok s (headerOf s) n (v .accepted .nodes n (v .exists)) .fits
+  ok : NodeOk s (headerOf s) n
+  ok = node-ok s (headerOf s) n (v .accepted .nodes n (v .exists))
+
+  kid-small : (i : ℕ) → Small (pick item none (childrenOf s (headerOf s) n) i)
+  kid-small i =
+      pick-all Small item none n (childrenOf s (headerOf s) n) i none-small
+      (λ j l. node-ok s (headerOf s) j (v .accepted .nodes j (omega (arith, v .exists))) .fits) (ok .before)
 
   -- what holds of the node by the header holds of it by the first node's record
   met : {A : Type 0} (Q : Row → Given → A) (x y : Item) (cs : List ℕ) → childrenOf s (headerOf s) n ≡ cs → x ≡ pick item none cs 0
@@ -155,15 +175,21 @@ module _ {s : List ℤ} {base rules n : ℕ} (v : RangeAt s base rules n) where
 
   -- its row takes what it is given, and gives its item
   pub record Ranged (x y : Item) : Type 0 where
-    pub takes : rowAt s (base + n) .takes (givenAt s base rules (base + n) x y) ≡ true
+    pub based : BaseOf s base
+    pub able : Rangeable s base rules (base + n) x y
     pub gives : rowAt s (base + n) .gives (givenAt s base rules (base + n) x y) ≡ item n
 
   range-as : (x y : Item) (cs : List ℕ) → childrenOf s (headerOf s) n ≡ cs → x ≡ pick item none cs 0 → y ≡ pick item none cs 1 → Ranged x y
   range-as x y cs e p q =
-      let o = node-ok s (headerOf s) n (v .accepted .nodes n (v .exists)) in
       record {
-        takes = met (λ (r : Row) (g : Given). r .takes g) x y cs e p q ∙ o .takes;
-        gives = met (λ (r : Row) (g : Given). r .gives g) x y cs e p q ∙ sym (o .item);
+        based = record { first = v .first; accepted = v .accepted };
+        able = record {
+          first = rw (p ∙ ap (λ (l : List ℕ). pick item none l 0) (sym e)) (kid-small 0);
+          second = rw (q ∙ ap (λ (l : List ℕ). pick item none l 1) (sym e)) (kid-small 1);
+          kids = subst SmallKids (sym (met (λ (r : Row) (g : Given). g) x y cs e p q)) (ok .kids);
+          takes = met (λ (r : Row) (g : Given). r .takes g) x y cs e p q ∙ ok .takes;
+        };
+        gives = met (λ (r : Row) (g : Given). r .gives g) x y cs e p q ∙ sym (ok .item);
       }
 
   module _ (c : Kids) (k : kids c ≡ childrenAt s (base + n)) where

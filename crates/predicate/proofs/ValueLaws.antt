@@ -1,9 +1,9 @@
 -- The value of a node from those of its children, and that it lies in the node's range.
 -- Assumes nothing.
-use mathlib.Core.Path.{_≡_, refl, sym, ap, subst, _∙_}
+use mathlib.Core.Path.{_≡_, ap, subst}
 use mathlib.Core.Bool.{Bool, true}
 use mathlib.Core.List.{List, [], _∷_}
-use Prim.Native.Nat.{ℕ, zero, suc, _+_, _<_}
+use Prim.Native.Nat.{ℕ, zero, suc, _<_}
 use lib.IntN.{ℤ, pos}
 use lib.ListN.{getD}
 use lib.Dec.{ltb}
@@ -17,27 +17,19 @@ use Rattle.signed.proofs.Parts.{eq-true}
 use Rattle.signed.proofs.Order.{le-refl}
 use Rattle.signed.proofs.Bounds.{In, in-true, small-in, small-true, true-small}
 use Rattle.layout.specs.declared.Header.{Header}
-use Rattle.layout.specs.Header.{headerOf, firstNode}
 use Rattle.item.specs.declared.Item.{Item}
 use Rattle.item.specs.Items.{none}
-use Rattle.node.specs.declared.Kids.{Kids}
 use Rattle.node.specs.Rows.{Seen}
-use Rattle.node.specs.Judged.{kids}
 use Rattle.node.proofs.Truth.{IsBool}
-use Rattle.node.proofs.Lawful.{Of, Known, lawful}
+use Rattle.node.proofs.Lawful.{Of, Known, align-of, lawful}
 use Rattle.records.specs.Accepted.{Accepted}
 use Rattle.records.specs.Facts.{minOf, maxOf, factItem}
-use Rattle.records.specs.Nodes.{nodeWords, nodeRow, childrenOf, namedFact, givenOf, itemOf}
+use Rattle.records.specs.Nodes.{nodeWords, nodeRow, childrenOf, namedFact, childItem, givenOf, itemOf}
 use Rattle.records.proofs.FactLaws.{fact-ok}
 use Rattle.records.proofs.NodeLaws.{node-ok}
 use Rattle.facts.specs.Inner.{FactsIn}
 use Rattle.predicate.specs.Values.{seenOf, valueStep, valueOf, truth}
 use Rattle.predicate.specs.Inner.{Truths}
-use Rattle.tree.specs.Inner.{rowAt, childrenAt}
-use Rattle.predicate.specs.Base.{seenAt, EvaluableAt}
-use Rattle.tree.proofs.TreeLaws.{none-named, one-named, two-named}
-use Rattle.predicate.proofs.BaseLaws.{there}
-use Rattle.kinds.proofs.KindLaws.{decided}
 
 -- the value x lies in the range
 abbrev pub Within : Item → ℤ → Type 0
@@ -90,13 +82,15 @@ module _ (s : List ℤ) (h : Header) (facts verdicts : List ℤ) where
     named-of k e = rw e (fact-of k (ltb-true k (h .facts) e))
 
     known : (n : ℕ) → n < h .nodes → Before n (childrenOf s h n) → ((j : ℕ) → j < n → Of (itemOf s h j) (value j))
-        → Known (givenOf s h (itemOf s h) n) facts verdicts (pick value (pos 0) (childrenOf s h n) 0) (pick value (pos 0) (childrenOf s h n) 1)
+        → Known (givenOf s h (itemOf s h) n) facts verdicts (seenOf s h facts verdicts value n .x) (seenOf s h facts verdicts value n .y)
     known n l b ih =
+        let kid : (i : ℕ) → Of (childItem s h (itemOf s h) n i) (pick value (pos 0) (childrenOf s h n) i) =
+        λ i. pick-of (itemOf s h) value n (childrenOf s h n) i b ih in
         record {
           fact = named-of (num (nodeWords s h n .w1));
           verdict = in-true (pos 0) (getD verdicts (num (nodeWords s h n .w1)) (pos 0)) (pos 1) (t .each (num (nodeWords s h n .w1)));
-          x = pick-of (itemOf s h) value n (childrenOf s h n) 0 b ih;
-          y = pick-of (itemOf s h) value n (childrenOf s h n) 1 b ih;
+          x = align-of (childItem s h (itemOf s h) n 0) (childItem s h (itemOf s h) n 1) (pick value (pos 0) (childrenOf s h n) 0) (kid 0);
+          y = align-of (childItem s h (itemOf s h) n 1) (childItem s h (itemOf s h) n 0) (pick value (pos 0) (childrenOf s h n) 1) (kid 1);
         }
 
     value-step : (n : ℕ) → ((j : ℕ) → j < n → j < h .nodes → Of (itemOf s h j) (value j)) → n < h .nodes → Of (itemOf s h n) (value n)
@@ -125,41 +119,3 @@ module _ (s : List ℤ) (h : Header) (facts verdicts : List ℤ) where
     -- a node that is true has 1 in its range
     pub true-in-range : (n : ℕ) → n < h .nodes → truth s h facts verdicts n ≡ true → Within (itemOf s h n) (pos 1)
     true-in-range n l e = rw (eq-true (value n) (pos 1) e) at (value-in n l)
-
--- a node's value as its evaluation meets it
-module _ {s : List ℤ} {base : ℕ} {facts verdicts : List ℤ} {n : ℕ} (v : EvaluableAt s base facts verdicts n) where
-  abbrev valued : ℕ → ℤ
-  valued j = valueOf s (headerOf s) facts verdicts j
-
-  -- the value in −M..M, as the record at base + n gives it over the children's values x and y
-  pub record Meets (x y : ℤ) : Type 0 where
-    pub small : bounded (rowAt s (base + n) .value (seenAt s (base + n) facts verdicts x y)) ≡ true
-    pub is : rowAt s (base + n) .value (seenAt s (base + n) facts verdicts x y) ≡ valued n
-
-  abbrev from : ℕ → ℤ → ℤ → ℤ
-  from first x y = rowAt s (first + n) .value (seenAt s (first + n) facts verdicts x y)
-
-  meets : (x y : ℤ) (cs : List ℕ) → childrenOf s (headerOf s) n ≡ cs → x ≡ pick valued (pos 0) cs 0 → y ≡ pick valued (pos 0) cs 1 → Meets x y
-  meets x y cs e p q =
-      let o = v .over in
-      let b = node-ok s (headerOf s) n (o .accepted .nodes n (o .exists)) .before in
-      let f = firstNode (headerOf s) in
-      let i : from base x y ≡ valued n = ap (λ (b : ℕ). from b x y) (v .first) ∙ ap (λ (z : ℤ). from f z y) (p ∙ ap (λ (l : List ℕ). pick valued (pos 0) l 0) (sym e)) ∙ ap (λ (z : ℤ). from f (pick valued (pos 0) (childrenOf s (headerOf s) n) 0) z) (q ∙ ap (λ (l : List ℕ). pick valued (pos 0) l 1) (sym e)) ∙ sym (value-is s (headerOf s) facts verdicts n b) in
-      record { small = rw i (value-small s (headerOf s) facts verdicts (o .accepted) (o .known) (o .judged) n (o .exists)); is = i }
-
-  module _ (c : Kids) (k : kids c ≡ childrenAt s (base + n)) where
-    pub by-none : c .count ≡ 0 → Meets (pos 0) (pos 0)
-    unfolding pick
-    by-none e = meets (pos 0) (pos 0) [] (none-named (there v) c k e) refl refl
-
-    pub by-one : {x : ℤ} → c .count ≡ 1 → x ≡ valued (c .first) → Meets x (pos 0)
-    unfolding pick
-    by-one e p = meets _ (pos 0) (c .first ∷ []) (one-named (there v) c k e) p refl
-
-    pub by-two : {x y : ℤ} → (c .count ≡ 0 → ⊥) → (c .count ≡ 1 → ⊥) → x ≡ valued (c .first) → y ≡ valued (c .second) → Meets x y
-    unfolding pick
-    by-two d e p q = meets _ _ (c .first ∷ c .second ∷ []) (two-named (there v) c k d e) p q
-
-    -- where the first child decides, the second does not matter
-    pub by-first : {x : ℤ} → (c .count ≡ 0 → ⊥) → (c .count ≡ 1 → ⊥) → x ≡ valued (c .first) → rowAt s (base + n) .decides x ≡ true → x ≡ valued n
-    by-first {x} d e p q = sym (decided _ _ facts verdicts x (valued (c .second)) q) ∙ by-two d e p refl .is

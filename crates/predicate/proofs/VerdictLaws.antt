@@ -118,11 +118,6 @@ module _ (s : List ℤ) (h : Header) (facts : List ℤ) where
       ∙ rw (verdicts-below s h facts a k (verdictsTo s h facts k) (verdictsTo s h facts (h .rules))
       (λ c p. let b = ltb-true c k (and-left (ltb c k) _ p) in verdict-at s h facts k c b ∙ sym (verdict-at s h facts (h .rules) c (omega arith))) l)
 
--- what evaluating a node over the verdicts asks
-pub over-verdicts : {s : List ℤ} {h : Header} {facts : List ℤ} {n : ℕ} → Accepted s h → FactsIn s h facts → n < h .nodes
-    → Evaluable s h facts (verdictsOf s h facts) n
-over-verdicts {s} {h} {facts} a f l = record { accepted = a; known = f; judged = verdicts-true s h facts; exists = l }
-
 -- ---- the loop that fills the verdicts
 
 -- of a list of so many rules' verdicts the first k are stored; the others may be anything
@@ -157,9 +152,8 @@ done s h facts k out r l =
 pub judging : {s : List ℤ} {h : Header} {facts out : List ℤ} {k : ℕ} {rules : ℕ} → Accepted s h → FactsIn s h facts → Judged s h facts rules k out
     → k < h .rules → Evaluable s h facts (take k out) (whenNode s h k)
 judging {s} {h} {facts} {out} {k} a f r l =
+    let root = rule-ok s h k (a .rules k l) .root in
     record {
-      accepted = a;
-      known = f;
-      judged = rw (r .stored) (truths-to s h facts k);
-      exists = rule-ok s h k (a .rules k l) .root .exists;
+      over = record { accepted = a; known = f; judged = rw (r .stored) (truths-to s h facts k); exists = root .exists };
+      bool = root .bool;
     }

@@ -8,6 +8,7 @@ use mathlib.Core.List.{List}
 use lib.ListN.{getD}
 use Rattle.signed.specs.Words.{within}
 use Rattle.layout.specs.declared.Header.{Header}
+use Rattle.records.specs.Nodes.{itemOf}
 use Rattle.records.specs.Accepted.{Accepted}
 use Rattle.facts.specs.Inner.{FactsIn}
 
@@ -15,9 +16,14 @@ use Rattle.facts.specs.Inner.{FactsIn}
 pub record Truths (verdicts : List ℤ) : Type 0 where
   pub each : (k : ℕ) → within (pos 0) (getD verdicts k (pos 0)) (pos 1) ≡ true
 
--- what an evaluation of node n asks: an accepted sheet, facts in their ranges, verdicts, and that there is such a node
-pub record Evaluable (s : List ℤ) (h : Header) (facts verdicts : List ℤ) (n : ℕ) : Type 0 where
+-- what the work on node n asks: an accepted sheet, facts in their ranges, verdicts, and that there is such a node
+pub record Supplied (s : List ℤ) (h : Header) (facts verdicts : List ℤ) (n : ℕ) : Type 0 where
   pub accepted : Accepted s h
   pub known : FactsIn s h facts
   pub judged : Truths verdicts
   pub exists : n < h .nodes
+
+-- and whether it is true: it is of type Bool
+pub record Evaluable (s : List ℤ) (h : Header) (facts verdicts : List ℤ) (n : ℕ) : Type 0 where
+  pub over : Supplied s h facts verdicts n
+  pub bool : itemOf s h n .sort ≡ 0

@@ -1,4 +1,5 @@
 pub mod Values
+pub mod Units
 pub mod Base
 pub mod Verdicts
 pub mod Inner

@@ -7,3 +7,4 @@ pub mod NodeLaws
 pub mod RuleLaws
 pub mod FlowLaws
 pub mod OperationLaws
+pub mod MixedTypes

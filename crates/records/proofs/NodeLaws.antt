@@ -1,31 +1,40 @@
 -- What holds of each node of an accepted sheet.
 -- Assumes nothing.
 use mathlib.Core.Path.{_≡_, refl, sym, ap, _∙_}
-use mathlib.Core.Bool.{Bool, true, not, _&&_}
+use mathlib.Core.Bool.{Bool, true, false, not, cond, _&&_}
 use mathlib.Core.List.{List, [], _∷_}
-use Prim.Native.Nat.{ℕ, _+_, _<_}
+use Prim.Native.Nat.{ℕ, _+_, _≤_, _<_}
 use lib.IntN.{ℤ}
 use lib.Dec.{ltb}
+use native.Mathlib.Omega.{arith}
+use borrow.Author.Tests.{ltb-true}
 use Rattle.tables.specs.Table.{entry}
 use Rattle.tables.specs.Lists.{allOf, distinct, joined, pick}
 use Rattle.tables.proofs.Bools.{and-left, and-right}
-use Rattle.tables.proofs.Grown.{entry-from}
-use Rattle.tables.proofs.Lists.{Before, all-before, pick-same, joined-same}
+use Rattle.tables.proofs.Grown.{entry-from, strong}
+use Rattle.tables.proofs.Lists.{Before, all-before, pick-same, pick-all, joined-same}
 use Rattle.words.specs.Record.{numbersOf, unused}
 use Rattle.layout.specs.declared.Header.{Header}
 use Rattle.item.specs.declared.Item.{Item}
-use Rattle.item.specs.Items.{none, small}
+use Rattle.item.specs.Items.{none, small, align}
 use Rattle.item.specs.Inner.{Small}
+use Rattle.item.proofs.Units.{align-most}
 use Rattle.node.specs.declared.Given.{Given}
-use Rattle.node.specs.Rows.{fits}
-use Rattle.node.proofs.Judged.{small-of}
-use Rattle.records.specs.Nodes.{nodeWords, nodeRow, childrenOf, namedFact, givenOf, itemStep, itemOf, treeStep, treeOf, namedByNodes, goodChildren, goodNode}
+use Rattle.node.specs.Rows.{fits, converts}
+use Rattle.node.specs.Judged.{SmallKids}
+use Rattle.node.proofs.Judged.{small-of, smalls}
+use Rattle.node.proofs.Few.{sort-few}
+use Rattle.records.specs.Facts.{factItem, goodFact}
+use Rattle.records.proofs.FactLaws.{fact-ok}
+use Rattle.records.specs.Nodes.{nodeWords, nodeRow, childrenOf, namedFact, childItem, givenOf, itemStep, itemOf, treeStep, treeOf, namedByNodes, goodChildren, goodNode}
 
--- its children come before it, are named here for the first time and once; its row takes what it is given; its range is within −M..M
+-- its children come before it, are named here for the first time and once; its row takes what it is given; its range and those of its
+-- children, converted, are within −M..M
 pub record NodeOk (s : List ℤ) (h : Header) (n : ℕ) : Type 0 where
   pub before : Before n (childrenOf s h n)
   pub new : allOf (λ c. ltb c n && not (namedByNodes s h n c)) (childrenOf s h n) ≡ true
   pub apart : distinct (childrenOf s h n) ≡ true
+  pub kids : SmallKids (givenOf s h (itemOf s h) n)
   pub takes : nodeRow s h n .takes (givenOf s h (itemOf s h) n) ≡ true
   pub item : itemOf s h n ≡ nodeRow s h n .gives (givenOf s h (itemOf s h) n)
   pub fits : Small (itemOf s h n)
@@ -45,13 +54,21 @@ module _ (s : List ℤ) (h : Header) (n : ℕ) (b : Before n (childrenOf s h n))
   tree-is = entry-from (treeStep s h) [] n (λ look e. ap (λ (l : List ℕ). n ∷ l) (joined-same look (treeOf s h) n (childrenOf s h n) e b))
 
 module _ (s : List ℤ) (h : Header) (n : ℕ) (good : goodNode s h n ≡ true) where
+  abbrev given : Given
+  given = givenOf s h (itemOf s h) n
+
   children-good : goodChildren n (namedByNodes s h n) (childrenOf s h n) ≡ true
   unfolding goodNode
-  children-good = and-left _ (fits (nodeRow s h n) (givenOf s h (itemOf s h) n)) good
+  children-good = and-left _ (converts given) (and-left _ (fits (nodeRow s h n) given) good)
 
-  fits-good : fits (nodeRow s h n) (givenOf s h (itemOf s h) n) ≡ true
+  converts-good : converts given ≡ true
   unfolding goodNode
-  fits-good = and-right (goodChildren n (namedByNodes s h n) (childrenOf s h n)) _ good
+  converts-good =
+      and-right (goodChildren n (namedByNodes s h n) (childrenOf s h n)) _ (and-left _ (fits (nodeRow s h n) given) good)
+
+  fits-good : fits (nodeRow s h n) given ≡ true
+  unfolding goodNode
+  fits-good = and-right (goodChildren n (namedByNodes s h n) (childrenOf s h n) && converts given) _ good
 
   new-good : allOf (λ c. ltb c n && not (namedByNodes s h n c)) (childrenOf s h n) ≡ true
   unfolding goodChildren
@@ -60,9 +77,6 @@ module _ (s : List ℤ) (h : Header) (n : ℕ) (good : goodNode s h n ≡ true) 
   apart-good : distinct (childrenOf s h n) ≡ true
   unfolding goodChildren
   apart-good = and-right (allOf (λ c. ltb c n && not (namedByNodes s h n c)) (childrenOf s h n)) _ children-good
-
-  abbrev given : Given
-  given = givenOf s h (itemOf s h) n
 
   takes-good : nodeRow s h n .takes given ≡ true
   unfolding fits
@@ -81,7 +95,32 @@ module _ (s : List ℤ) (h : Header) (n : ℕ) (good : goodNode s h n ≡ true) 
         before = b;
         new = new-good;
         apart = apart-good;
+        kids = smalls given converts-good;
         takes = takes-good;
         item = item-is s h n b;
         fits = rw (item-is s h n b) (small-of (nodeRow s h n .gives given) small-good);
       }
+
+-- ---- types are small numbers
+
+module _ (s : List ℤ) (h : Header) (facts : (k : ℕ) → k < h .facts → goodFact s k ≡ true) where
+  pub fact-few : (f : ℕ) → namedFact s (h .facts) f .sort ≤ 261
+  fact-few f = go (ltb f (h .facts)) refl
+    where
+      go : (t : Bool) → ltb f (h .facts) ≡ t → cond t (factItem s f) none .sort ≤ 261
+      go true e = fact-ok s f (facts f (ltb-true f (h .facts) e)) .bounds .few
+      go false e = omega arith
+
+  module _ (n : ℕ) (good : (j : ℕ) → j < n → goodNode s h j ≡ true) where
+    few-step : (j : ℕ) → ((i : ℕ) → i < j → i < n → itemOf s h i .sort ≤ 261) → j < n → itemOf s h j .sort ≤ 261
+    few-step j ih l =
+        let o = node-ok s h j (good j l) in
+        let kid : (i : ℕ) → childItem s h (itemOf s h) j i .sort ≤ 261 =
+        λ i. pick-all (λ (x : Item). x .sort ≤ 261) (itemOf s h) none j (childrenOf s h j) i (omega arith) (λ i q. ih i q (omega arith)) (o .before)
+        in
+        rw (o .item)
+        (sort-few _ (givenOf s h (itemOf s h) j) (fact-few _)
+        (align-most (childItem s h (itemOf s h) j 0) (childItem s h (itemOf s h) j 1) 261 (kid 0) (kid 1)) (o .takes))
+
+    pub item-few : (j : ℕ) → j < n → itemOf s h j .sort ≤ 261
+    item-few = strong (λ (j : ℕ). j < n → itemOf s h j .sort ≤ 261) few-step

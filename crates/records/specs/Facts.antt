@@ -1,4 +1,4 @@
--- 01, "Fact": type (0 Bool, 1 Int, 2 Enum), min, max, has default (0/1), default, value set.
+-- 01, "Fact": type (0 Bool, 1 Int, 2 Enum, and 02's 3 Money, 4 Duration), min, max, has default (0/1), default, value set (currency, unit).
 -- Assumes nothing.
 use Prim.Native.Nat.{ℕ}
 use lib.IntN.{ℤ, pos}
@@ -10,7 +10,6 @@ use Rattle.signed.specs.Words.{eqZ, within}
 use Rattle.words.specs.Record.{word, number, unused}
 use Rattle.layout.specs.Tables.{fact}
 use Rattle.item.specs.declared.Item.{Item}
-use Rattle.item.specs.Sorts.{isEnum}
 use Rattle.item.specs.Items.{span}
 use Rattle.node.specs.FactTypes.{FactType, factTypeOf}
 
@@ -44,9 +43,12 @@ factItem s k = span (factSort s k) (minOf s k) (maxOf s k)
 unfoldable pub goodDefault : ℕ → ℤ → ℤ → ℤ → Bool
 goodDefault flag min max default = cond (eqb flag 0) (eqZ default (pos 0)) (eqb flag 1 && within min default max)
 
--- facts of one set have one max
+-- Enum facts of one set have one max
+abbrev pub isEnum : List ℤ → ℕ → Bool
+isEnum s k = eqb (number s k 0) 2
+
 unfoldable pub agree : List ℤ → ℕ → ℕ → Bool
-agree s j k = not (isEnum (factSort s j) && eqb (factSort s j) (factSort s k)) || eqZ (maxOf s j) (maxOf s k)
+agree s j k = not (isEnum s j && isEnum s k && eqb (setOf s j) (setOf s k)) || eqZ (maxOf s j) (maxOf s k)
 
 unfoldable pub goodFact : List ℤ → ℕ → Bool
 goodFact s k =

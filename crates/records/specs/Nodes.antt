@@ -1,4 +1,4 @@
--- 01, "Node": when a node is good, its type and value range, and the tree under it.
+-- 01, "Node", and 02, CR 4: when a node is good, its type and value range, and the tree under it.
 -- Assumes nothing.
 use Prim.Native.Nat.{ℕ, _+_}
 use lib.IntN.{ℤ}
@@ -14,9 +14,9 @@ use Rattle.words.specs.Record.{wordsAt}
 use Rattle.layout.specs.declared.Header.{Header}
 use Rattle.layout.specs.Header.{firstNode}
 use Rattle.item.specs.declared.Item.{Item}
-use Rattle.item.specs.Items.{none}
+use Rattle.item.specs.Items.{none, align}
 use Rattle.node.specs.declared.Given.{Given}
-use Rattle.node.specs.Rows.{Row, rowOf, fits}
+use Rattle.node.specs.Rows.{Row, rowOf, fits, converts}
 use Rattle.records.specs.Facts.{factItem}
 
 -- the words of node n, and the row of its kind
@@ -37,7 +37,11 @@ citedBy s h n = nodeRow s h n .cites (nodeWords s h n)
 abbrev pub namedFact : List ℤ → ℕ → ℕ → Item
 namedFact s facts f = cond (ltb f facts) (factItem s f) none
 
--- what node n is worked out from; `look` gives the types and ranges of its children
+-- the type and range of child number i of node n; `look` gives those of the nodes before it
+abbrev pub childItem : List ℤ → Header → (ℕ → Item) → ℕ → ℕ → Item
+childItem s h look n i = pick look none (childrenOf s h n) i
+
+-- what node n is worked out from, each child being converted to the unit that it shares with the other
 abbrev pub givenOf : List ℤ → Header → (ℕ → Item) → ℕ → Given
 givenOf s h look n =
     record {
@@ -45,8 +49,8 @@ givenOf s h look n =
       facts = h .facts;
       rules = h .rules;
       fact = namedFact s (h .facts) (num (nodeWords s h n .w1));
-      x = pick look none (childrenOf s h n) 0;
-      y = pick look none (childrenOf s h n) 1;
+      x = align (childItem s h look n 0) (childItem s h look n 1);
+      y = align (childItem s h look n 1) (childItem s h look n 0);
     }
 
 -- the type and value range of node n, from those of the nodes before it
@@ -72,4 +76,7 @@ unfoldable pub goodChildren : ℕ → (ℕ → Bool) → List ℕ → Bool
 goodChildren n named cs = allOf (λ c. ltb c n && not (named c)) cs && distinct cs
 
 unfoldable pub goodNode : List ℤ → Header → ℕ → Bool
-goodNode s h n = goodChildren n (namedByNodes s h n) (childrenOf s h n) && fits (nodeRow s h n) (givenOf s h (itemOf s h) n)
+goodNode s h n =
+    goodChildren n (namedByNodes s h n) (childrenOf s h n)
+    && converts (givenOf s h (itemOf s h) n)
+    && fits (nodeRow s h n) (givenOf s h (itemOf s h) n)

@@ -1,7 +1,9 @@
 // Tests of a single record, from its words and from the numbers that earlier records give.
 ghost use mathlib.Core.Path.{_≡_};
 ghost use Prim.Native.Nat.{ℕ, _≤_, _<_};
-ghost use mathlib.Core.Bool.{true};
+ghost use mathlib.Core.Bool.{true, _&&_};
+ghost use lib.Signed.{leZ};
+ghost use Rattle.signed.specs.Words.{bounded as inBounds};
 ghost use Rattle.layout.specs.Sized.{Sized};
 ghost use Rattle.node.specs.FactTypes.{factTypeOf};
 ghost use Rattle.records.specs.Facts.{goodDefault};
@@ -27,17 +29,26 @@ use words::number;
 use words::unused;
 use words::word;
 
+// The bounds of a fact that is a number.
+fn in_order(min: i64, max: i64) -> bool
+    ensures { λ b. ⌜ b ≡ (inBounds min && leZ min max && inBounds max) ⌝ }
+{
+    bounded(min) & at_most(min, max) & bounded(max)
+}
+
 // The tests of a fact by its type.
 pub fn good_bounds(kind: usize, min: i64, max: i64) -> bool
     ensures { λ b. ⌜ b ≡ factTypeOf kind .bounds min max ⌝ }
 {
-    let int = bounded(min) & at_most(min, max) & bounded(max);
+    let number = in_order(min, max);
     let zero = same(min, 0);
     match kind {
         0 => zero & same(max, 1),
-        1 => int,
+        1 => number,
         2 => zero & within(0, max, 255),
-        3.. => false,
+        3 => number,
+        4 => number,
+        5.. => false,
     }
 }
 
@@ -46,9 +57,11 @@ pub fn good_set(kind: usize, set: usize) -> bool
 {
     match kind {
         0 => set == 0,
-        1 => set == 0,
+        1 => set <= 0,
         2 => set <= 127,
-        3.. => false,
+        3 => set <= 127,
+        4 => set <= 3,
+        5.. => false,
     }
 }
 
@@ -59,9 +72,11 @@ fn fact_sort(kind: usize, set: usize) -> usize
 {
     match kind {
         0 => 0,
-        1 => 1,
+        1 => 1 + set,
         2 => 2 + set,
-        3.. => 0,
+        3 => 130 + set,
+        4 => 258 + set,
+        5.. => 0,
     }
 }
 

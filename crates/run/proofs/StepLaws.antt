@@ -14,6 +14,7 @@ use Rattle.answer.specs.declared.Count.{Count}
 use Rattle.answer.specs.declared.Count.the-variants.{Is, Refused}
 use Rattle.layout.specs.declared.Header.{Header}
 use Rattle.layout.specs.Tables.{operation, step}
+use Rattle.records.specs.Nodes.{itemOf}
 use Rattle.records.proofs.FlowLaws.{StepKind, performs as is-operation, branches as is-branch, step-is}
 use Rattle.records.proofs.OperationLaws.{operation-ok}
 use Rattle.predicate.specs.Values.{truth}
@@ -66,11 +67,13 @@ module _ {s : List ℤ} {h : Header} {facts verdicts : List ℤ} {i : ℕ} (w : 
 
   -- a branch's node can be worked out
   pub evaluable : performs s h i ≡ false → (n : ℕ) → n ≡ nodeAt s h i → Evaluable s h facts verdicts n
-  evaluable e n q = record { accepted = w .accepted; known = w .known; judged = w .judged; exists = rw q (go kind) }
+  evaluable e n q =
+      let b = go kind in
+      record { over = record { accepted = w .accepted; known = w .known; judged = w .judged; exists = rw q (b .0) }; bool = rw q (b .1) }
     where
-      go : StepKind s h (step s h i) → nodeAt s h i < h .nodes
+      go : StepKind s h (step s h i) → (nodeAt s h i < h .nodes) × (itemOf s h (nodeAt s h i) .sort ≡ 0)
       go (is-operation z o p c) = absurd (true-false (eq-eqb (step s h i .w0) 0 z) e)
-      go (is-branch z o t c) = o
+      go (is-branch z o t c) = (o, t)
 
   pub branch-two : performs s h i ≡ false → routesOf s h i ≡ 2
   unfolding routesOf

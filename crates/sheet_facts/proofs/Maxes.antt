@@ -11,9 +11,9 @@ use lib.ListN.{length, getD, set, replicate, length-replicate, getD-replicate, l
 use lib.Seq.{getD-set-same, getD-set-other}
 use native.Mathlib.Omega.{arith}
 use native.Mathlib.Decide.{ℕ-discrete}
-use borrow.Author.Tests.{le-leb, lt-leb, eq-eqb, ne-eqb, eqb-true}
+use borrow.Author.Tests.{eq-eqb, ne-eqb, eqb-true}
 use Rattle.tables.specs.Scan.{allBelow}
-use Rattle.tables.proofs.Bools.{bool-cases, same-tests, tests, and-iff, and-no, or-true-right, and-left, and-right}
+use Rattle.tables.proofs.Bools.{bool-cases, same-tests, tests, and-iff, or-true-right, and-left, and-right}
 use Rattle.tables.proofs.Scans.{all-at, all-of, extend-one}
 use Rattle.signed.specs.Words.{num, eqZ}
 use Rattle.signed.proofs.Parts.{eq-true, true-eq}
@@ -22,9 +22,8 @@ use Rattle.signed.proofs.Numbers.{num-is, num-pos, in-num}
 use Rattle.words.specs.declared.Record.{Record}
 use Rattle.words.specs.Record.{number, recordAt}
 use Rattle.layout.specs.Tables.{fact}
-use Rattle.item.specs.Sorts.{isEnum}
 use Rattle.node.specs.FactTypes.{factTypeOf}
-use Rattle.records.specs.Facts.{maxOf, setOf, factSort, agree, goodFact}
+use Rattle.records.specs.Facts.{maxOf, setOf, agree, goodFact}
 use Rattle.sheet_facts.specs.Maxes.{goodAlone, agrees, noted}
 
 -- an earlier fact of set x whose max is m
@@ -65,46 +64,23 @@ alone : (s : List ℤ) (k : ℕ) → goodFact s k ≡ true → goodAlone s k ≡
 unfolding goodFact goodAlone
 alone s k p = and-left _ (allBelow (λ j. agree s j k) k) p
 
--- the type of an Enum is its set past 1; the others are 0 and 1
-sort-enum : (s : List ℤ) (k : ℕ) → fact s k .w0 ≡ 2 → factSort s k ≡ 2 + fact s k .w5
-unfolding recordAt factTypeOf
-sort-enum s k e = ap (λ (t : ℕ). factTypeOf t .sort (setOf s k)) e
-
-sort-other : (s : List ℤ) (k : ℕ) → (fact s k .w0 ≡ 2 → ⊥) → factSort s k ≤ 1
-unfolding recordAt
-sort-other s k d = few (number s k 0) (setOf s k) d
-  where
-    few : (t u : ℕ) → (t ≡ 2 → ⊥) → factTypeOf t .sort u ≤ 1
-    few zero u d = unfold factTypeOf in omega arith
-    few (suc zero) u d = unfold factTypeOf in omega arith
-    few (suc (suc zero)) u d = absurd (d refl)
-    few (suc (suc (suc t))) u d = unfold factTypeOf in omega arith
-
 -- two facts agree unless both are Enums of one set with two maxes
 agree-enum : (s : List ℤ) (j k : ℕ) → agree s j k ≡ true → fact s j .w0 ≡ 2 → fact s k .w0 ≡ 2 → fact s j .w5 ≡ fact s k .w5
     → fact s j .w2 ≡ fact s k .w2
 unfolding agree recordAt
 agree-enum s j k p a b e =
-    let enum : isEnum (factSort s j) ≡ true = le-leb 2 (factSort s j) (omega (arith, sort-enum s j a)) in
-    let same : eqb (factSort s j) (factSort s k) ≡ true = eq-eqb (factSort s j) (factSort s k) (omega (arith, sort-enum s j a, sort-enum s k b)) in
-    ap num (eq-true (maxOf s j) (maxOf s k) (rw (enum, same) at p))
+    ap num (eq-true (maxOf s j) (maxOf s k) (rw (eq-eqb (number s j 0) 2 a, eq-eqb (number s k 0) 2 b, eq-eqb (setOf s j) (setOf s k) e) at p))
 
 enum-agree : (s : List ℤ) (j k : ℕ) → (fact s j .w0 ≡ 2 → fact s k .w0 ≡ 2 → fact s j .w5 ≡ fact s k .w5 → maxOf s j ≡ maxOf s k) → agree s j k ≡ true
-unfolding agree
-enum-agree s j k h = go (ℕ-discrete (fact s j .w0) 2) (ℕ-discrete (fact s k .w0) 2) (ℕ-discrete (fact s j .w5) (fact s k .w5))
+unfolding agree recordAt
+enum-agree s j k h = go (eqb (number s j 0) 2) refl (eqb (number s k 0) 2) refl (eqb (setOf s j) (setOf s k)) refl
   where
-    apart : (factSort s j ≡ factSort s k → ⊥)
-        → (not (isEnum (factSort s j) && eqb (factSort s j) (factSort s k)) || eqZ (maxOf s j) (maxOf s k)) ≡ true
-    apart d = rw (ne-eqb (factSort s j) (factSort s k) d, and-no (isEnum (factSort s j)))
-
-    go : Dec (fact s j .w0 ≡ 2) → Dec (fact s k .w0 ≡ 2) → Dec (fact s j .w5 ≡ fact s k .w5)
-        → (not (isEnum (factSort s j) && eqb (factSort s j) (factSort s k)) || eqZ (maxOf s j) (maxOf s k)) ≡ true
-    go (yes a) (yes b) (yes e) =
-        or-true-right (not (isEnum (factSort s j) && eqb (factSort s j) (factSort s k))) (eqZ (maxOf s j) (maxOf s k))
-        (true-eq (maxOf s j) (maxOf s k) (h a b e))
-    go (no a) d f = rw (lt-leb 2 (factSort s j) (omega (arith, sort-other s j a)))
-    go (yes a) (no b) f = apart (λ z. omega (arith, sort-enum s j a, sort-other s k b, z))
-    go (yes a) (yes b) (no e) = apart (λ z. e (omega (arith, sort-enum s j a, sort-enum s k b, z)))
+    go : (p : Bool) → eqb (number s j 0) 2 ≡ p → (q : Bool) → eqb (number s k 0) 2 ≡ q → (r : Bool) → eqb (setOf s j) (setOf s k) ≡ r
+        → (not (p && q && r) || eqZ (maxOf s j) (maxOf s k)) ≡ true
+    go true a true b true e = true-eq (maxOf s j) (maxOf s k) (h (eqb-true _ _ a) (eqb-true _ _ b) (eqb-true _ _ e))
+    go true a true b false e = refl
+    go true a false b r e = refl
+    go false a q b r e = refl
 
 module _ (s : List ℤ) (k : ℕ) (t : List ℕ) (n : Noted s k t) (a : goodAlone s k ≡ true) where
   abbrev seen : ℕ

@@ -10,23 +10,25 @@ use lib.ListN.{length, getD, set}
 use native.Mathlib.Omega.{arith}
 use Rattle.tables.specs.Lists.{allOf, distinct}
 use Rattle.tables.proofs.Bools.{and-left, and-right}
-use Rattle.signed.specs.Words.{num}
+use Rattle.signed.specs.Words.{num, bounded, within}
 use Rattle.words.specs.declared.Words.{Words}
 use Rattle.words.specs.Record.{numbersOf, unused}
 use Rattle.layout.specs.declared.Header.{Header}
 use Rattle.item.specs.declared.Item.{Item}
 use Rattle.item.specs.Items.{none, small}
+use Rattle.item.proofs.Units.{align-none}
 use Rattle.node.specs.declared.Judgement.{Judgement}
 use Rattle.node.specs.declared.Kids.{Kids}
-use Rattle.node.specs.Rows.{rowOf, fits}
-use Rattle.node.specs.Judged.{judged, upTo, kids}
+use Rattle.node.specs.Rows.{rowOf, fits, converts}
+use Rattle.node.specs.Judged.{judged, judgedParent, upTo, kids}
 use Rattle.node.proofs.Judged.{small-of}
 use Rattle.node.proofs.Few.{sort-few}
 use Rattle.records.specs.Nodes.{goodChildren}
+use Rattle.records.proofs.NodeLaws.{fact-few}
 use Rattle.sheet_nodes.specs.Arrays.{greatest}
 use Rattle.sheet_nodes.specs.Steps.{givenBy, leafGiven, Storable, Stored, Turn, Placed, Took, LeafAt, TookLeaf}
 use Rattle.sheet_nodes.proofs.Scan.{judged-good, judged-item}
-use Rattle.sheet_nodes.proofs.Turns.{few, fact-few, cited-small, own-few, good-is, more}
+use Rattle.sheet_nodes.proofs.Turns.{few, cited-small, own-few, good-is, more}
 
 -- ---- what is taken of it
 
@@ -57,7 +59,7 @@ module _ {s : List ℤ} {h : Header} {n : ℕ} {w : Words} {k : ℕ} {lows highs
           small = rw item-is
               (small-of _
               (and-right (unused (rowOf k .used) (numbersOf w) && rowOf k .takes (leafGiven s h w)) (small (rowOf k .gives (leafGiven s h w))) fit));
-          few = rw item-is (sort-few k (leafGiven s h w) (fact-few s h (l .begun) (num (w .w1))) (omega arith) takes);
+          few = rw item-is (sort-few k (leafGiven s h w) (fact-few s h (l .begun .facts) (num (w .w1))) (omega arith) takes);
         }
 
     pub leaf-rule : {i : ℕ} → i ≡ num (w .w1) → k ≡ 8 → i < 128
@@ -101,8 +103,13 @@ module _ {s : List ℤ} {h : Header} {n : ℕ} {lows highs : List ℤ} {sorts to
   unfolding goodChildren allOf distinct
   linked-is = rw (no-kids c z)
 
-  given-is : judged (rowOf k) (leafGiven s h w) ≡ judged (rowOf k) (givenBy s h w c lows highs sorts)
-  given-is = rw z
+  none-converts : converts (leafGiven s h w) ≡ true
+  unfolding converts small bounded within
+  none-converts = refl
+
+  given-is : judged (rowOf k) (leafGiven s h w) ≡ judgedParent (rowOf k) (givenBy s h w c lows highs sorts)
+  unfolding judgedParent
+  given-is = rw (z, align-none, none-converts)
 
   top-is : cond (eqb k 8) (suc (num (w .w1))) 0 ≡ max (cond (eqb k 8) (suc (num (w .w1))) 0) (greatest (λ j. getD tops j 0) (kids c))
   unfolding greatest

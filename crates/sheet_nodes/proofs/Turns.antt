@@ -29,47 +29,18 @@ use Rattle.item.specs.Inner.{Small}
 use Rattle.node.specs.declared.Given.{Given}
 use Rattle.node.specs.declared.Judgement.{Judgement}
 use Rattle.node.specs.declared.Kids.{Kids}
-use Rattle.node.specs.FactTypes.{factTypeOf}
-use Rattle.node.specs.Rows.{rowOf, fits}
-use Rattle.node.specs.Judged.{judged, SmallKids, kids}
-use Rattle.node.proofs.Few.{sort-few}
+use Rattle.node.specs.Rows.{rowOf, fits, converts}
+use Rattle.node.specs.Judged.{judgedParent, kids}
 use Rattle.node.proofs.OneKind.{parent-other}
-use Rattle.records.specs.Facts.{factSort, factItem}
-use Rattle.records.specs.Nodes.{nodeWords, nodeRow, childrenOf, namedFact, givenOf, itemOf, namedByNodes, goodChildren, goodNode}
-use Rattle.records.proofs.NodeLaws.{node-ok}
-use Rattle.records.proofs.FactLaws.{fact-ok}
+use Rattle.records.specs.Nodes.{nodeWords, nodeRow, childrenOf, givenOf, itemOf, namedByNodes, goodChildren, goodNode}
+use Rattle.records.proofs.NodeLaws.{node-ok, item-few}
 use Rattle.sheet_nodes.specs.Arrays.{itemAt, greatest, ownTop, topOf, Empty, Filled}
-use Rattle.sheet_nodes.specs.Steps.{kidItem, givenBy, Inside, Begun, Judgeable, Storable, Turn}
+use Rattle.sheet_nodes.specs.Steps.{firstKid, secondKid, givenBy, Inside, Begun, Judgeable, Storable, Turn}
 use Rattle.sheet_nodes.proofs.Kids.{kid-first, kid-second, has-kids, inside-kids}
 use Rattle.sheet_nodes.proofs.Tops.{greatest-same, greatest-few, top-is, own-is}
-use Rattle.sheet_nodes.proofs.Scan.{judged-good, judged-item}
+use Rattle.sheet_nodes.proofs.Scan.{parent-good, parent-item}
 
--- ---- types and greatest rules are small
-
-type-few : (k t : ℕ) → t ≤ 127 → factTypeOf k .sort t ≤ 129
-unfolding factTypeOf
-type-few zero t l = omega arith
-type-few (suc zero) t l = omega arith
-type-few (suc (suc zero)) t l = omega arith
-type-few (suc (suc (suc k))) t l = omega arith
-
-pub fact-few : (s : List ℤ) (h : Header) → Begun s h → (f : ℕ) → namedFact s (h .facts) f .sort ≤ 129
-fact-few s h b f = go (ltb f (h .facts)) refl
-  where
-    go : (t : Bool) → ltb f (h .facts) ≡ t → cond t (factItem s f) none .sort ≤ 129
-    go true e = type-few _ _ (fact-ok s f (b .facts f (ltb-true f (h .facts) e)) .bounds .set)
-    go false e = omega arith
-
-module _ (s : List ℤ) (h : Header) (b : Begun s h) (n : ℕ) (good : (j : ℕ) → j < n → goodNode s h j ≡ true) where
-  item-few : (j : ℕ) → j < n → itemOf s h j .sort ≤ 129
-  item-few = strong (λ (j : ℕ). j < n → itemOf s h j .sort ≤ 129) step
-    where
-      step : (j : ℕ) → ((i : ℕ) → i < j → i < n → itemOf s h i .sort ≤ 129) → j < n → itemOf s h j .sort ≤ 129
-      step j ih l =
-          let o = node-ok s h j (good j l) in
-          rw (o .item) (sort-few _ (givenOf s h (itemOf s h) j) (fact-few s h b _)
-          (pick-all (λ (x : Item). x .sort ≤ 129) (itemOf s h) none j (childrenOf s h j) 0 (omega arith) (λ i q. ih i q (omega arith)) (o .before))
-          (o .takes))
+-- ---- greatest rules are small
 
 -- a verdict-present cites a rule that exists
 pub cited-small : (k : ℕ) (g : Given) → rowOf k .takes g ≡ true → k ≡ 8 → num (g .words .w1) < g .rules
@@ -181,13 +152,13 @@ module _ (s : List ℤ) (h : Header) (n : ℕ) {lows highs : List ℤ} {sorts to
         inside : Inside c 1024
         inside = inside-kids n 1024 c before-kids (omega (arith, few))
 
-        first-is : kidItem lows highs sorts (ltb 0 (c .count)) (c .first) ≡ pick (itemOf s h) none (childrenOf s h n) 0
+        first-is : firstKid c lows highs sorts ≡ pick (itemOf s h) none (childrenOf s h n) 0
         first-is =
             sym (kid-first (itemAt lows highs sorts) none c)
             ∙ pick-same (itemAt lows highs sorts) (itemOf s h) n (f .item) none (kids c) 0 before-kids
             ∙ ap (λ (cs : List ℕ). pick (itemOf s h) none cs 0) children-are
 
-        second-is : kidItem lows highs sorts (ltb 1 (c .count)) (c .second) ≡ pick (itemOf s h) none (childrenOf s h n) 1
+        second-is : secondKid c lows highs sorts ≡ pick (itemOf s h) none (childrenOf s h n) 1
         second-is =
             sym (kid-second (itemAt lows highs sorts) none c)
             ∙ pick-same (itemAt lows highs sorts) (itemOf s h) n (f .item) none (kids c) 1 before-kids
@@ -208,18 +179,19 @@ module _ (s : List ℤ) (h : Header) (n : ℕ) {lows highs : List ℤ} {sorts to
               begun = t .begun;
               long = record { low = f .low-long; high = f .high-long; sort = f .sort-long };
               inside = inside;
-              ready = rw given-is (record { x = kid-small 0; y = kid-small 1 });
+              first = rw first-is (kid-small 0);
+              second = rw second-is (kid-small 1);
             }
 
         pub tops-inside : (length tops ≡ 1024) × Inside c 1024
         tops-inside = (f .top-long, inside)
 
-        module _ {r : Judgement} (er : r ≡ judged (rowOf k) (givenBy s h w c lows highs sorts)) where
-          found-is : r ≡ judged (nodeRow s h n) (givenOf s h (itemOf s h) n)
+        module _ {r : Judgement} (er : r ≡ judgedParent (rowOf k) (givenBy s h w c lows highs sorts)) where
+          found-is : r ≡ judgedParent (nodeRow s h n) (givenOf s h (itemOf s h) n)
           found-is = er ∙ rw (given-is, ek, ew)
 
-          fits-is : r .good ≡ fits (nodeRow s h n) (givenOf s h (itemOf s h) n)
-          fits-is = ap (λ (x : Judgement). x .good) found-is ∙ judged-good (nodeRow s h n) (givenOf s h (itemOf s h) n)
+          fits-is : r .good ≡ (converts (givenOf s h (itemOf s h) n) && fits (nodeRow s h n) (givenOf s h (itemOf s h) n))
+          fits-is = ap (λ (x : Judgement). x .good) found-is ∙ parent-good (nodeRow s h n) (givenOf s h (itemOf s h) n)
 
           pub good-is : goodNode s h n ≡ r .good
           unfolding goodNode
@@ -234,7 +206,7 @@ module _ (s : List ℤ) (h : Header) (n : ℕ) {lows highs : List ℤ} {sorts to
 
             item-now : r .item ≡ itemOf s h n
             item-now =
-                ap (λ (x : Judgement). x .item) found-is ∙ judged-item (nodeRow s h n) (givenOf s h (itemOf s h) n) (sym fits-is ∙ q)
+                ap (λ (x : Judgement). x .item) found-is ∙ parent-item (nodeRow s h n) (givenOf s h (itemOf s h) n) (sym fits-is ∙ q)
                 ∙ sym (node-ok s h n good-now .item)
 
             good-all : (j : ℕ) → j < suc n → goodNode s h j ≡ true
@@ -246,7 +218,7 @@ module _ (s : List ℤ) (h : Header) (n : ℕ) {lows highs : List ℤ} {sorts to
                   long = record { low = f .low-long; high = f .high-long; sort = f .sort-long };
                   room = few;
                   small = rw item-now (node-ok s h n good-now .fits);
-                  few = rw item-now (item-few s h (t .begun) (suc n) good-all n (omega arith));
+                  few = rw item-now (item-few s h (t .begun .facts) (suc n) good-all n (omega arith));
                 }
 
             module _ {top : ℕ} (et : top ≡ max (cond (eqb k 8) (suc (num (w .w1))) 0) (greatest (λ j. getD tops j 0) (kids c))) where

@@ -12,12 +12,12 @@ use Rattle.words.specs.declared.Words.{Words}
 use Rattle.layout.specs.declared.Header.{Header}
 use Rattle.layout.specs.Sized.{Sized}
 use Rattle.item.specs.declared.Item.{Item}
-use Rattle.item.specs.Items.{none}
+use Rattle.item.specs.Items.{none, align}
 use Rattle.item.specs.Inner.{Small}
 use Rattle.node.specs.declared.Given.{Given}
 use Rattle.node.specs.declared.Kids.{Kids}
 use Rattle.node.specs.Rows.{rowOf}
-use Rattle.node.specs.Judged.{SmallKids, kids, judged}
+use Rattle.node.specs.Judged.{kids, judged}
 use Rattle.records.specs.Facts.{goodFact}
 use Rattle.records.specs.Nodes.{nodeWords, namedFact, goodNode}
 use Rattle.sheet_nodes.specs.Arrays.{itemAt, Filled}
@@ -26,6 +26,12 @@ use Rattle.sheet_nodes.specs.Arrays.{itemAt, Filled}
 abbrev pub kidItem : List ℤ → List ℤ → List ℕ → Bool → ℕ → Item
 kidItem lows highs sorts on j = cond on (itemAt lows highs sorts j) none
 
+abbrev pub firstKid : Kids → List ℤ → List ℤ → List ℕ → Item
+firstKid c lows highs sorts = kidItem lows highs sorts (ltb 0 (c .count)) (c .first)
+
+abbrev pub secondKid : Kids → List ℤ → List ℤ → List ℕ → Item
+secondKid c lows highs sorts = kidItem lows highs sorts (ltb 1 (c .count)) (c .second)
+
 abbrev pub givenBy : List ℤ → Header → Words → Kids → List ℤ → List ℤ → List ℕ → Given
 givenBy s h w c lows highs sorts =
     record {
@@ -33,8 +39,8 @@ givenBy s h w c lows highs sorts =
       facts = h .facts;
       rules = h .rules;
       fact = namedFact s (h .facts) (num (w .w1));
-      x = kidItem lows highs sorts (ltb 0 (c .count)) (c .first);
-      y = kidItem lows highs sorts (ltb 1 (c .count)) (c .second);
+      x = align (firstKid c lows highs sorts) (secondKid c lows highs sorts);
+      y = align (secondKid c lows highs sorts) (firstKid c lows highs sorts);
     }
 
 -- what a node without children is worked out from
@@ -62,14 +68,15 @@ pub record Judgeable (s : List ℤ) (h : Header) (w : Words) (c : Kids) (lows hi
   pub begun : Begun s h
   pub long : Long 1024 lows highs sorts
   pub inside : Inside c 1024
-  pub ready : SmallKids (givenBy s h w c lows highs sorts)
+  pub first : Small (firstKid c lows highs sorts)
+  pub second : Small (secondKid c lows highs sorts)
 
 -- what the arrays take of a node
 pub record Storable (n : ℕ) (x : Item) (lows highs : List ℤ) (sorts : List ℕ) : Type 0 where
   pub long : Long 1024 lows highs sorts
   pub room : n < 1024
   pub small : Small x
-  pub few : x .sort ≤ 129
+  pub few : x .sort ≤ 261
 
 pub record Stored (n : ℕ) (x : Item) (lows highs : List ℤ) (sorts : List ℕ) (lows′ highs′ : List ℤ) (sorts′ : List ℕ) : Type 0 where
   pub low : lows′ ≡ set lows n (x .low)

@@ -11,11 +11,12 @@ ghost use Rattle.tables.specs.Inner.{marked};
 ghost use Rattle.signed.specs.Words.{num as wordNumber};
 ghost use Rattle.layout.specs.Header.{firstNode};
 ghost use Rattle.node.specs.Rows.{rowOf};
-ghost use Rattle.node.specs.Judged.{kids, judged};
+ghost use Rattle.node.specs.Judged.{kids, judged, judgedParent};
 ghost use Rattle.records.specs.Nodes.{namedFact, goodChildren, goodNode};
 ghost use Rattle.sheet_nodes.specs.Arrays.{greatest, Empty, Filled};
 ghost use Rattle.sheet_nodes.specs.Steps.{kidItem, givenBy, leafGiven, Inside, Long, Begun, Judgeable, Storable, Stored, Turn, Placed, Took, LeafAt, TookLeaf};
 use item::Item;
+use item::align;
 use item::span;
 use layout::Header;
 use node::Given;
@@ -99,7 +100,7 @@ fn judge_joint(
     sorts: &[u16],
 ) -> Judgement
     requires { ⌜ Judgeable (now s) h w c (now lows) (now highs) (now sorts) × (rowOf k .children w ≡ [] → ⊥) ⌝ }
-    ensures { λ r. ⌜ r ≡ judged (rowOf k) (givenBy (now (s .entry)) h w c (now (lows .entry)) (now (highs .entry)) (now (sorts .entry))) ⌝ }
+    ensures { λ r. ⌜ r ≡ judgedParent (rowOf k) (givenBy (now (s .entry)) h w c (now (lows .entry)) (now (highs .entry)) (now (sorts .entry))) ⌝ }
 {
     let x = kid_item(lows, highs, sorts, 0 < c.count, c.first);
     let y = kid_item(lows, highs, sorts, 1 < c.count, c.second);
@@ -111,8 +112,8 @@ fn judge_joint(
             facts: h.facts,
             rules: h.rules,
             fact,
-            x,
-            y,
+            x: align(x, y),
+            y: align(y, x),
         },
     )
 }

@@ -1,15 +1,15 @@
 //! Damaged sheets and texts, and hostile numbers.
 
-use crate::generate::{Record, Sheet, EFFECTS, FLOWS, NODES, OPERATIONS, ROUTES, RULES, STEPS};
+use crate::generate::{edge, Record, Sheet, EFFECTS, FACTS, FLOWS, NODES, OPERATIONS, ROUTES, RULES, STEPS};
 use crate::random::Random;
 use reference::{HEADER, LIMITS, M, RECORD};
 
 /// Numbers at the ends of 01's ranges and of i64, or near an old one.
 pub fn hostile(random: &mut Random, old: i64) -> i64 {
     #[rustfmt::skip]
-    const ENDS: [i64; 40] = [
-        i64::MIN, i64::MIN + 1, i64::MAX, i64::MAX - 1, -1, -1, 0, 0, 1, 2, 3, 4, 5, 6, 7, 8, 9, 11, 12, 15, 16, 17,
-        24, 25, 31, 32, 127, 128, 129, 255, 256, 512, 1023, 1024, 1025, 65536, M, M + 1, -M, -M - 1,
+    const ENDS: [i64; 42] = [
+        i64::MIN, i64::MIN + 1, i64::MAX, i64::MAX - 1, -1, -1, 0, 0, 1, 2, 3, 4, 5, 6, 7, 8, 9, 11, 12, 13, 14, 15, 16,
+        17, 24, 25, 31, 32, 127, 128, 129, 255, 256, 512, 1023, 1024, 1025, 65536, M, M + 1, -M, -M - 1,
     ];
     match random.below(12) {
         0..=4 => random.pick(&ENDS),
@@ -26,7 +26,7 @@ pub fn hostile(random: &mut Random, old: i64) -> i64 {
 /// The words of a damaged sheet. It may still be an accepted one.
 pub fn sheet(sheet: &Sheet, random: &mut Random) -> Vec<i64> {
     let mut words = sheet.words();
-    match random.below(16) {
+    match random.below(17) {
         0..=5 => change_words(&mut words, random),
         6 => length(&mut words, random),
         7 => header(&mut words, random),
@@ -36,6 +36,7 @@ pub fn sheet(sheet: &Sheet, random: &mut Random) -> Vec<i64> {
         }
         9 | 10 => return records(sheet, random).words(),
         11 => return counts(sheet, random).words(),
+        12 => return durations(sheet, random).words(),
         _ => return rules_broken(sheet, random).words(),
     }
     words
@@ -173,10 +174,36 @@ pub fn many_routes(random: &mut Random) -> Vec<i64> {
     words
 }
 
-/// One rule of 01 broken, or nearly, in a record that is otherwise good.
+/// A duration's fact or literal with another unit, or with another range: as much as fits into a smaller unit, or more.
+fn durations(sheet: &Sheet, random: &mut Random) -> Sheet {
+    let mut sheet = sheet.clone();
+    let of_kind = |table: usize, kind: i64| {
+        let records = sheet.tables[table].iter().enumerate();
+        records.filter(move |(_, record)| record[0] == kind).map(move |(index, _)| (table, index))
+    };
+    let all: Vec<(usize, usize)> = of_kind(FACTS, 4).chain(of_kind(NODES, 13)).collect();
+    if all.is_empty() {
+        return rules_broken(&sheet, random);
+    }
+    let (table, index) = random.pick(&all);
+    let words = &mut sheet.tables[table][index];
+    let v = edge(random);
+    match (table, random.below(3)) {
+        (FACTS, 0) => words[5] = random.within(0, 3),
+        (FACTS, _) => {
+            (words[1], words[2]) = random.pick(&[(v, v), (v.min(0), v.max(0))]);
+            (words[3], words[4]) = (0, 0);
+        }
+        (_, 0) => words[2] = random.within(0, 3),
+        _ => words[1] = v,
+    }
+    sheet
+}
+
+/// One rule of 01 or 02 broken, or nearly, in a record that is otherwise good.
 fn rules_broken(sheet: &Sheet, random: &mut Random) -> Sheet {
     let mut sheet = sheet.clone();
-    let kind = random.pick(&[NODES, NODES, RULES, OPERATIONS, EFFECTS, EFFECTS, STEPS, ROUTES]);
+    let kind = random.pick(&[FACTS, NODES, NODES, NODES, RULES, OPERATIONS, EFFECTS, EFFECTS, STEPS, ROUTES]);
     let count = sheet.tables[kind].len();
     if count == 0 {
         return sheet;
@@ -189,8 +216,16 @@ fn rules_broken(sheet: &Sheet, random: &mut Random) -> Sheet {
     let before = sheet.tables[kind][index.saturating_sub(1)];
     let words = &mut sheet.tables[kind][index];
     match kind {
+        FACTS => match random.below(3) {
+            0 => words[0] = random.within(0, 5),
+            1 => words[5] = random.pick(&[-1, 0, 1, 2, 3, 4, 127, 128]),
+            _ => {
+                (words[1], words[2]) = (random.pick(&[0, -M, -M - 1, 1]), random.pick(&[0, M, M + 1, -1]));
+                (words[3], words[4]) = (0, 0);
+            }
+        },
         NODES => match (words[0], random.below(4)) {
-            (_, 0) => words[0] = random.within(0, 11),
+            (_, 0) => words[0] = random.within(0, 14),
             (8, _) => words[1] = random.within(0, rules - 1),
             (7, 1) => words[1] = random.within(0, 5),
             (7, 2) => words[2] = random.within(0, index as i64),
@@ -198,7 +233,10 @@ fn rules_broken(sheet: &Sheet, random: &mut Random) -> Sheet {
             (0 | 6, 1) => words[2 - (words[0] == 0) as usize] += random.pick(&[-1, 1]),
             (2, 1) => words[1] = random.pick(&[0, 255, 256, -1]),
             (2, 2) => words[2] = random.pick(&[0, 127, 128, -1]),
-            (0..=3, _) => words[1] = hostile(random, words[1]),
+            (12, 1) => words[2] = random.pick(&[0, 127, 128, -1]),
+            (13, 1) => words[2] = random.within(-1, 4),
+            (13, 2) => words[1] = edge(random),
+            (0..=3 | 12 | 13, _) => words[1] = hostile(random, words[1]),
             (_, 1) => words[2] = words[1],
             _ => words[1 + random.below(2)] = random.within(0, index as i64),
         },

@@ -159,15 +159,23 @@ fn facts(wish: &Wish, random: &mut Random, sheet: &mut Sheet) {
     let most_sets = random.pick(&[1, 2, 4, 128]);
     let max_of_set: Vec<i64> = (0..128).map(|_| random.pick(&[0, 1, 2, 3, 100, 255])).collect();
     for _ in 0..wish.counts[FACTS] {
-        let (kind, min, max, set) = match random.below(4) {
+        let (kind, min, max, set) = match random.below(6) {
             0 => (0, 0, 1, 0),
             1 | 2 => {
                 let (a, b) = (number(random), number(random));
                 (1, a.min(b), a.max(b), 0)
             }
-            _ => {
+            3 => {
                 let set = random.below(most_sets);
                 (2, 0, max_of_set[set], set as i64)
+            }
+            4 => {
+                let (a, b) = (number(random), number(random));
+                (3, a.min(b), a.max(b), random.below(most_sets) as i64)
+            }
+            _ => {
+                let (a, b) = (duration(random), duration(random));
+                (4, a.min(b), a.max(b), random.below(UNITS.len()) as i64)
             }
         };
         let (has_default, default) = match random.below(4) {
@@ -187,6 +195,24 @@ fn number(random: &mut Random) -> i64 {
         1 => random.within(-M, M),
         2 => random.within(-100_000, 100_000),
         _ => random.within(-9, 9),
+    }
+}
+
+/// How many seconds each unit of a duration has: days, hours, minutes, seconds.
+const UNITS: [i64; 4] = [86_400, 3_600, 60, 1];
+
+/// As many of a unit as fit into M of a smaller one, or one more.
+pub fn edge(random: &mut Random) -> i64 {
+    let most = M / random.pick(&[24, 60, 1_440, 3_600, 86_400]);
+    random.pick(&[most, -most, most + 1, -most - 1])
+}
+
+/// A number of −M..M for a duration.
+fn duration(random: &mut Random) -> i64 {
+    if random.chance(1, 4) {
+        edge(random)
+    } else {
+        number(random)
     }
 }
 
@@ -365,6 +391,16 @@ enum Sort {
     Int,
     Bool,
     Enum(i64),
+    Money(i64),
+    /// Of any unit.
+    Duration,
+}
+
+impl Sort {
+    /// Has it sums, differences and an order?
+    fn measures(self) -> bool {
+        matches!(self, Sort::Int | Sort::Money(_) | Sort::Duration)
+    }
 }
 
 /// A node before it has its number.
@@ -374,6 +410,14 @@ struct Twig {
     children: Vec<(usize, usize)>,
     low: i64,
     high: i64,
+    /// A duration's unit; else 0.
+    unit: usize,
+}
+
+type Ends = (i64, i64);
+
+fn fits(range: Ends) -> bool {
+    -M <= range.0 && range.1 <= M
 }
 
 struct Trees<'a> {
@@ -441,9 +485,11 @@ impl<'a> Trees<'a> {
         self.citable = rules;
         while self.twigs.len() < room {
             let budget = self.random.size(1, (room - self.twigs.len()).min(40));
-            let sort = match self.random.below(4) {
+            let sort = match self.random.below(6) {
                 0 => Sort::Int,
-                1 => self.some_set().map_or(Sort::Bool, Sort::Enum),
+                1 => self.some_set(2).map_or(Sort::Bool, Sort::Enum),
+                2 => self.some_set(3).map_or(Sort::Bool, Sort::Money),
+                3 => Sort::Duration,
                 _ => Sort::Bool,
             };
             self.tree(sort, budget);
@@ -499,30 +545,52 @@ impl<'a> Trees<'a> {
         numbers
     }
 
-    fn some_set(&mut self) -> Option<i64> {
-        let enums: Vec<i64> = self.facts.iter().filter(|fact| fact[0] == 2).map(|fact| fact[5]).collect();
+    /// A set of Enums or a currency, mostly one that some fact of the type has.
+    fn some_set(&mut self, kind: i64) -> Option<i64> {
+        let sets: Vec<i64> = self.facts.iter().filter(|fact| fact[0] == kind).map(|fact| fact[5]).collect();
         match self.random.below(4) {
             0 => Some(self.random.below(128) as i64),
-            _ if enums.is_empty() => None,
-            _ => Some(self.random.pick(&enums)),
+            _ if sets.is_empty() => None,
+            _ => Some(self.random.pick(&sets)),
         }
     }
 
     fn push(&mut self, words: &[i64], children: &[(usize, usize)], low: i64, high: i64) -> usize {
-        self.twigs.push(Twig { record: record(words), children: children.to_vec(), low, high });
+        let unit = match *words {
+            [13, _, unit] => unit as usize,
+            [3, fact] if self.facts[fact as usize][0] == 4 => self.facts[fact as usize][5] as usize,
+            // The smaller unit has the larger number.
+            [4 | 5] => children.iter().map(|&(_, child)| self.twigs[child].unit).max().unwrap_or(0),
+            _ => 0,
+        };
+        self.twigs.push(Twig { record: record(words), children: children.to_vec(), low, high, unit });
         self.twigs.len() - 1
     }
 
-    fn range(&self, twig: usize) -> (i64, i64) {
+    fn range(&self, twig: usize) -> Ends {
         (self.twigs[twig].low, self.twigs[twig].high)
+    }
+
+    /// The range in a unit that is not larger than its own.
+    fn range_in(&self, twig: usize, unit: usize) -> Ends {
+        let Twig { low, high, unit: own, .. } = self.twigs[twig];
+        let times = UNITS[own] / UNITS[unit];
+        (low * times, high * times)
+    }
+
+    /// The ranges of both in the smaller of their units; None where one of them leaves −M..M.
+    fn met(&self, x: usize, y: usize) -> Option<(Ends, Ends)> {
+        let unit = self.twigs[x].unit.max(self.twigs[y].unit);
+        let (a, b) = (self.range_in(x, unit), self.range_in(y, unit));
+        (fits(a) && fits(b)).then_some((a, b))
     }
 
     /// Grows a tree of this sort with at most so many nodes, and answers its root.
     fn tree(&mut self, sort: Sort, budget: usize) -> usize {
         match sort {
             Sort::Bool => self.bool_tree(budget),
-            Sort::Int => self.int_tree(budget),
             Sort::Enum(set) => self.enum_leaf(set),
+            _ => self.number_tree(sort, budget),
         }
     }
 
@@ -575,23 +643,30 @@ impl<'a> Trees<'a> {
         let left = self.share(budget);
         let right = budget - 1 - left;
         if self.random.chance(self.comparisons, 10) {
-            let sort = match self.random.below(8) {
+            let sort = match self.random.below(12) {
                 0 => Sort::Bool,
-                1 | 2 if budget < 6 => self.some_set().map_or(Sort::Int, Sort::Enum),
+                1 | 2 if budget < 6 => self.some_set(2).map_or(Sort::Int, Sort::Enum),
+                3 | 4 => self.some_set(3).map_or(Sort::Int, Sort::Money),
+                5 | 6 => Sort::Duration,
                 _ => Sort::Int,
             };
-            let operator = self.random.below(if sort == Sort::Int { 6 } else { 2 }) as i64;
+            let operator = self.random.below(if sort.measures() { 6 } else { 2 }) as i64;
             let x = self.tree(sort, left);
+            let before = self.twigs.len();
             // Equal values, and ranges that just meet, are rare otherwise.
-            let y = match (sort, self.range(x)) {
-                (Sort::Int, (low, high)) if right == 1 && self.random.chance(2, 3) => {
-                    let inside = self.random.within(low, high);
-                    let value = self.random.pick(&[inside, low, high, low - 1, high + 1]).clamp(-M, M);
-                    self.push(&[0, value], &[], value, value)
+            let near = sort.measures() && right == 1 && self.random.chance(2, 3);
+            let mut y = if near { self.near_literal(sort, x) } else { self.tree(sort, right) };
+            let (a, b) = match self.met(x, y) {
+                Some(ranges) => ranges,
+                None => {
+                    // Not within −M..M: the second child is not used.
+                    self.twigs.truncate(before);
+                    let Twig { unit, low, .. } = self.twigs[x];
+                    y = self.literal(sort, unit, low);
+                    (self.range(x), self.range(y))
                 }
-                _ => self.tree(sort, right),
             };
-            let (some, some_not) = comparison_range(operator, self.range(x), self.range(y));
+            let (some, some_not) = comparison_range(operator, a, b);
             return self.push(&[7, operator], &[(2, x), (3, y)], !some_not as i64, some as i64);
         }
         let x = self.bool_tree(left);
@@ -613,22 +688,60 @@ impl<'a> Trees<'a> {
         }
     }
 
-    fn int_leaf(&mut self) -> usize {
+    /// A literal of a sort that measures, in this unit if it is a duration.
+    fn literal(&mut self, sort: Sort, unit: usize, value: i64) -> usize {
+        match sort {
+            Sort::Money(currency) => self.push(&[12, value, currency], &[], value, value),
+            Sort::Duration => self.push(&[13, value, unit as i64], &[], value, value),
+            _ => self.push(&[0, value], &[], value, value),
+        }
+    }
+
+    /// A unit for what is to meet a node: of a duration any in which its range stays within −M..M, else its own.
+    fn unit_for(&mut self, sort: Sort, twig: usize) -> usize {
+        let own = self.twigs[twig].unit;
+        let unit = self.random.below(UNITS.len());
+        if sort == Sort::Duration && (unit <= own || fits(self.range_in(twig, unit))) {
+            unit
+        } else {
+            own
+        }
+    }
+
+    /// A literal in the range of a node, at its ends, or next to them.
+    fn near_literal(&mut self, sort: Sort, twig: usize) -> usize {
+        let own = self.twigs[twig].unit;
+        let unit = self.unit_for(sort, twig);
+        let (low, high) = self.range_in(twig, unit.max(own));
+        let inside = self.random.within(low, high);
+        let value = self.random.pick(&[inside, low, high, low - 1, high + 1]).clamp(-M, M);
+        // In a larger unit as many as there are whole ones.
+        let value = if unit < own { value / (UNITS[unit] / UNITS[own]) } else { value };
+        self.literal(sort, unit, value)
+    }
+
+    fn number_leaf(&mut self, sort: Sort) -> usize {
         if self.random.chance(3, 5) {
-            if let Some(twig) = self.fact_of(|fact| fact[0] == 1) {
+            let fact = match sort {
+                Sort::Money(currency) => self.fact_of(|fact| fact[0] == 3 && fact[5] == currency),
+                Sort::Duration => self.fact_of(|fact| fact[0] == 4),
+                _ => self.fact_of(|fact| fact[0] == 1),
+            };
+            if let Some(twig) = fact {
                 return twig;
             }
         }
-        let value = number(self.random);
-        self.push(&[0, value], &[], value, value)
+        let unit = self.random.below(UNITS.len());
+        let value = if sort == Sort::Duration { duration(self.random) } else { number(self.random) };
+        self.literal(sort, unit, value)
     }
 
-    fn int_tree(&mut self, budget: usize) -> usize {
-        if budget < 2 {
-            return self.int_leaf();
+    fn number_tree(&mut self, sort: Sort, budget: usize) -> usize {
+        if budget < 2 || (budget == 2 && sort != Sort::Int) {
+            return self.number_leaf(sort);
         }
-        if budget == 2 || self.random.chance(1, 6) {
-            let child = self.int_tree(budget - 1);
+        if sort == Sort::Int && (budget == 2 || self.random.chance(1, 6)) {
+            let child = self.number_tree(sort, budget - 1);
             let (low, high) = self.range(child);
             let size = low.abs().max(high.abs());
             let most = if size == 0 { M } else { M / size };
@@ -643,28 +756,27 @@ impl<'a> Trees<'a> {
             return self.push(&[6, 0, factor], &[(1, child)], one.min(other), one.max(other));
         }
         let left = self.share(budget);
-        let x = self.int_tree(left);
-        let (low, high) = self.range(x);
+        let right = budget - 1 - left;
+        let x = self.number_tree(sort, left);
         let before = self.twigs.len();
         // A literal that just fits, now and then.
         let y = match self.random.below(6) {
-            0 if budget - 1 - left == 1 => {
-                let value = (M - high).min(M);
-                self.push(&[0, value], &[], value, value)
+            end @ (0 | 1) if right == 1 => {
+                let unit = self.unit_for(sort, x).max(self.twigs[x].unit);
+                let (low, high) = self.range_in(x, unit);
+                let value = if end == 0 { M - high } else { low + M };
+                self.literal(sort, unit, value.min(M))
             }
-            1 if budget - 1 - left == 1 => {
-                let value = (low + M).min(M);
-                self.push(&[0, value], &[], value, value)
-            }
-            _ => self.int_tree(budget - 1 - left),
+            _ => self.number_tree(sort, right),
         };
-        let (a, b) = self.range(y);
-        let sum = (low + a, high + b);
-        let difference = (low - b, high - a);
-        let fits = |range: (i64, i64)| -M <= range.0 && range.1 <= M;
-        match (fits(sum), fits(difference)) {
-            (true, both) if !both || self.random.chance(1, 2) => self.push(&[4], &[(1, x), (2, y)], sum.0, sum.1),
-            (_, true) => self.push(&[5], &[(1, x), (2, y)], difference.0, difference.1),
+        let sum = |((low, high), (a, b)): (Ends, Ends)| (low + a, high + b);
+        let difference = |((low, high), (a, b)): (Ends, Ends)| (low - b, high - a);
+        let ranges = self.met(x, y);
+        match (ranges.map(sum).filter(|&range| fits(range)), ranges.map(difference).filter(|&range| fits(range))) {
+            (Some((low, high)), other) if other.is_none() || self.random.chance(1, 2) => {
+                self.push(&[4], &[(1, x), (2, y)], low, high)
+            }
+            (_, Some((low, high))) => self.push(&[5], &[(1, x), (2, y)], low, high),
             _ => {
                 // Neither fits: the second child is not used.
                 self.twigs.truncate(before);

@@ -7,9 +7,9 @@ use fernpocket::example;
 use reference::M;
 
 #[rustfmt::skip]
-const VALUES: [i64; 30] = [
-    i64::MIN, -M - 1, -M, -2, -1, 0, 1, 2, 3, 4, 5, 6, 7, 8, 9, 11, 12, 15, 16, 17, 24, 31, 32, 127, 128, 255, 256,
-    M, M + 1, i64::MAX,
+const VALUES: [i64; 34] = [
+    i64::MIN, -M - 1, -M, -2, -1, 0, 1, 2, 3, 4, 5, 6, 7, 8, 9, 11, 12, 13, 14, 15, 16, 17, 24, 31, 32, 127, 128, 255,
+    256, 11_574, 11_575, M, M + 1, i64::MAX,
 ];
 
 fn agree(result: Result<(), difference::compare::Disagreement>) {

@@ -1,8 +1,9 @@
-//! The generator makes accepted sheets with everything that 01 speaks of.
+//! The generator makes accepted sheets with everything that 01 and 02 speak of; damage makes refused ones.
 
+use difference::damage;
 use difference::generate::*;
 use difference::random::Random;
-use reference::M;
+use reference::{HEADER, M, RECORD};
 use std::collections::BTreeMap;
 
 /// What the sheets have, and how many have it.
@@ -15,9 +16,42 @@ impl Seen {
     }
 }
 
+/// How often a unit of a duration has a smaller one: days, hours, minutes, seconds.
+fn times(unit: i64, smaller: i64) -> i64 {
+    [24, 60, 60][unit as usize..smaller as usize].iter().product()
+}
+
+/// The type of every node, with its set, currency or unit.
+fn sorts(sheet: &Sheet) -> Vec<(i64, i64)> {
+    let mut sorts: Vec<(i64, i64)> = vec![];
+    for &[kind, a, b, ..] in &sheet.tables[NODES] {
+        sorts.push(match kind {
+            0 | 6 => (1, 0),
+            2 => (2, b),
+            3 => (sheet.tables[FACTS][a as usize][0], sheet.tables[FACTS][a as usize][5]),
+            // Of two durations the smaller unit; else they are the same.
+            4 | 5 => sorts[a as usize].max(sorts[b as usize]),
+            12 => (3, b),
+            13 => (4, b),
+            _ => (0, 0),
+        });
+    }
+    sorts
+}
+
+/// The children of a sum, a difference or a comparison.
+fn of_two(node: &Record) -> Option<(&'static str, [i64; 2])> {
+    match *node {
+        [4, a, b, ..] => Some(("sum", [a, b])),
+        [5, a, b, ..] => Some(("difference", [a, b])),
+        [7, _, a, b, ..] => Some(("comparison", [a, b])),
+        _ => None,
+    }
+}
+
 fn note(seen: &mut Seen, sheet: &Sheet) {
     let nodes = &sheet.tables[NODES];
-    for kind in 0..12 {
+    for kind in 0..14 {
         seen.note(format!("node kind {kind}"), nodes.iter().any(|node| node[0] == kind));
     }
     for operator in 0..6 {
@@ -35,19 +69,38 @@ fn note(seen: &mut Seen, sheet: &Sheet) {
         let some = nodes.iter().any(|node| node[0] == 6 && literals.contains(&node[2]));
         seen.note(format!("a product by a literal {what}"), some);
     }
-    let sort = |node: i64| match nodes[node as usize] {
-        [0 | 4 | 5 | 6, ..] => 1,
-        [2, ..] => 2,
-        [3, fact, ..] => sheet.tables[FACTS][fact as usize][0],
-        _ => 0,
-    };
-    for (of, name) in ["Bool", "Int", "Enum"].into_iter().enumerate() {
-        seen.note(format!("{name} compared"), nodes.iter().any(|n| n[0] == 7 && sort(n[2]) == of as i64));
+    let sorts = sorts(sheet);
+    let sort = |node: i64| sorts[node as usize].0;
+    for (of, name) in ["Bool", "Int", "Enum", "Money", "Duration"].into_iter().enumerate() {
+        for operator in 0..if [0, 2].contains(&of) { 2 } else { 6 } {
+            let some = nodes.iter().any(|n| n[0] == 7 && n[1] == operator && sort(n[2]) == of as i64);
+            seen.note(format!("{name} compared by operator {operator}"), some);
+        }
         for default in 0..2 {
             let some = sheet.tables[FACTS].iter().any(|fact| fact[0] == of as i64 && fact[3] == default);
             seen.note(format!("{name} fact, defaults {default}"), some);
         }
     }
+    for (kind, name) in [(4, "sum"), (5, "difference")] {
+        let some = |of: i64| nodes.iter().any(|node| node[0] == kind && sort(node[1]) == of);
+        seen.note(format!("a {name} of Ints"), some(1));
+        seen.note(format!("a {name} of money"), some(3));
+    }
+    let pairs: Vec<(&str, [i64; 2])> = nodes.iter().filter_map(of_two).collect();
+    for (unit, other) in (0..16).map(|code| (code / 4, code % 4)) {
+        for name in ["sum", "difference", "comparison"] {
+            let some = pairs.iter().any(|&(of, children)| {
+                of == name && children.map(|child| sorts[child as usize]) == [(4, unit), (4, other)]
+            });
+            seen.note(format!("a {name} of durations, unit {unit} and unit {other}"), some);
+        }
+    }
+    let just_fits = |one: i64, other: i64| match nodes[one as usize] {
+        [13, v, unit, ..] => sorts[other as usize].1 > unit && v.abs() == M / times(unit, sorts[other as usize].1),
+        _ => false,
+    };
+    let some = pairs.iter().any(|&(_, [one, other])| just_fits(one, other) || just_fits(other, one));
+    seen.note("a literal of which no more would fit into a smaller unit", some);
     let mut named = vec![false; nodes.len()];
     for &[kind, a, b, c, ..] in nodes {
         let children: &[i64] = match kind {
@@ -120,6 +173,15 @@ fn note(seen: &mut Seen, sheet: &Sheet) {
     }
 }
 
+/// What is printed, and has to be there at least three times.
+fn made(seen: &Seen) {
+    for (what, times) in &seen.0 {
+        println!("{times:>7} {what}");
+    }
+    let never: Vec<_> = seen.0.iter().filter(|(_, &times)| times < 3).collect();
+    assert!(never.is_empty(), "hardly or never made: {never:?}");
+}
+
 #[test]
 fn everything_of_01_is_made() {
     let mut seen = Seen::default();
@@ -131,12 +193,53 @@ fn everything_of_01_is_made() {
         assert_eq!(reference::check(&words).refusal, 0, "round {round}");
         note(&mut seen, &sheet);
     }
-    for (what, times) in &seen.0 {
-        println!("{times:>7} {what}");
-    }
-    let never: Vec<_> = seen.0.iter().filter(|(_, &times)| times < 3).collect();
-    assert!(never.is_empty(), "hardly or never made: {never:?}");
+    made(&seen);
     for outcomes in 1..=8 {
         assert!(seen.0.contains_key(&format!("an operation of {outcomes} outcomes")));
     }
+}
+
+/// The unit of a duration that is a leaf, and how far from 0 its range goes, on a sheet whose nodes before this are good.
+fn leaf(words: &[i64], node: i64) -> Option<(i64, i64)> {
+    let record = |number: i64| &words[HEADER + RECORD * number as usize..];
+    match *record(words[1 + FACTS] + node) {
+        [13, v, unit, ..] => Some((unit, v.abs())),
+        [3, fact, ..] => match *record(fact) {
+            [4, min, max, _, _, unit, ..] => Some((unit, min.abs().max(max.abs()))),
+            _ => None,
+        },
+        _ => None,
+    }
+}
+
+#[test]
+fn conversions_that_leave_m_are_made() {
+    let mut seen = Seen::default();
+    for name in ["sum", "difference", "comparison"] {
+        seen.note(format!("the first child of a {name} leaves -M..M"), false);
+        seen.note(format!("the second child of a {name} leaves -M..M"), false);
+    }
+    for round in 0..3000 {
+        let mut random = Random::of_round(4, round);
+        let sheet = sheet(&Wish::random(&mut random), &mut random);
+        for _ in 0..20 {
+            let words = damage::sheet(&sheet, &mut random);
+            let answer = reference::check(&words);
+            let node = answer.place - words.get(1 + FACTS).unwrap_or(&0);
+            if answer.refusal != 3 || !(0..words[1 + NODES]).contains(&node) {
+                continue;
+            }
+            let bad: &Record = words[HEADER + RECORD * answer.place as usize..].first_chunk().unwrap();
+            let Some((name, children)) = of_two(bad) else { continue };
+            if !children.iter().all(|child| (0..node).contains(child)) {
+                continue;
+            }
+            if let [Some(one), Some(other)] = children.map(|child| leaf(&words, child)) {
+                let leaves = |(unit, size): (i64, i64), (to, _): (i64, i64)| unit < to && size * times(unit, to) > M;
+                seen.note(format!("the first child of a {name} leaves -M..M"), leaves(one, other));
+                seen.note(format!("the second child of a {name} leaves -M..M"), leaves(other, one));
+            }
+        }
+    }
+    made(&seen);
 }

@@ -71,25 +71,51 @@ fn listings_are_all_paths_in_order() {
 /// The value of every node, children first; those that cite a rule without a verdict yet are worthless for now.
 fn values(sheet: &Sheet, facts: &[i64], verdicts: &[i64]) -> Vec<i64> {
     let mut of: Vec<i64> = vec![];
+    // The unit of a duration, 0 of all else.
+    let mut units: Vec<usize> = vec![];
     for &[kind, a, b, c, ..] in &sheet.tables[NODES] {
         let at = |node: i64| of[node as usize];
-        let value = match kind {
-            0..=2 => a,
-            3 => facts[a as usize],
-            4 => at(a) + at(b),
-            5 => at(a) - at(b),
-            6 => at(a) * b,
-            7 => {
-                let order = at(b).cmp(&at(c));
-                [order.is_eq(), order.is_ne(), order.is_lt(), order.is_le(), order.is_gt(), order.is_ge()][a as usize]
-                    as i64
+        // Two durations in one unit: the larger is made smaller, step by step.
+        let both = |x: i64, y: i64| {
+            let mut pair = [(at(x), units[x as usize]), (at(y), units[y as usize])];
+            let unit = pair[0].1.max(pair[1].1);
+            for (value, own) in &mut pair {
+                while *own < unit {
+                    *value *= [24, 60, 60][*own];
+                    *own += 1;
+                }
             }
-            8 => verdicts[a as usize],
-            9 => at(a) & at(b),
-            10 => at(a) | at(b),
-            _ => 1 - at(a),
+            (pair[0].0, pair[1].0, unit)
+        };
+        let (value, unit) = match kind {
+            0..=2 | 12 => (a, 0),
+            13 => (a, b as usize),
+            3 => {
+                let [kind, _, _, _, _, unit, ..] = sheet.tables[FACTS][a as usize];
+                (facts[a as usize], if kind == 4 { unit as usize } else { 0 })
+            }
+            4 => {
+                let (x, y, unit) = both(a, b);
+                (x + y, unit)
+            }
+            5 => {
+                let (x, y, unit) = both(a, b);
+                (x - y, unit)
+            }
+            6 => (at(a) * b, 0),
+            7 => {
+                let (x, y, _) = both(b, c);
+                let order = x.cmp(&y);
+                let holds = [order.is_eq(), order.is_ne(), order.is_lt(), order.is_le(), order.is_gt(), order.is_ge()];
+                (holds[a as usize] as i64, 0)
+            }
+            8 => (verdicts[a as usize], 0),
+            9 => (at(a) & at(b), 0),
+            10 => (at(a) | at(b), 0),
+            _ => (1 - at(a), 0),
         };
         of.push(value);
+        units.push(unit);
     }
     of
 }

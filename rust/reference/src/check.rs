@@ -7,11 +7,41 @@ use std::ops::Deref;
 /// M, the largest size of a number.
 pub const M: i64 = 1_000_000_000;
 
+/// How many seconds each unit of a duration has: days, hours, minutes, seconds.
+const SECONDS: [i64; 4] = [24 * 60 * 60, 60 * 60, 60, 1];
+
+/// A type: its number as a fact has it, and the set of an Enum, the currency of money or the unit of a duration.
 #[derive(Clone, Copy, PartialEq, Eq)]
-enum Type {
-    Int,
-    Bool,
-    Enum(u8),
+struct Type {
+    number: u8,
+    of: u8,
+}
+
+impl Type {
+    const BOOL: Type = Type { number: 0, of: 0 };
+    const INT: Type = Type { number: 1, of: 0 };
+    const ENUM: u8 = 2;
+    const MONEY: u8 = 3;
+    const DURATION: u8 = 4;
+
+    /// Does the type allow sums, differences and an order?
+    fn measures(self) -> bool {
+        self == Type::INT || self.number >= Type::MONEY
+    }
+
+    /// What values of two types are multiplied by before they meet: durations are taken to the smaller of their units.
+    /// None where the types do not go together.
+    fn factors(self, other: Type) -> Option<(i64, i64)> {
+        if self == other {
+            return Some((1, 1));
+        }
+        if self.number != Type::DURATION || other.number != Type::DURATION {
+            return None;
+        }
+        // Smaller units have larger numbers.
+        let [x, y, smaller] = [self.of, other.of, self.of.max(other.of)].map(|unit| SECONDS[unit as usize]);
+        Some((x / smaller, y / smaller))
+    }
 }
 
 /// What is known of a node that is good.
@@ -43,6 +73,11 @@ impl Sheet<'_> {
     /// Does the range of this Bool node include 1?
     pub fn may_hold(&self, node: usize) -> bool {
         self.known[node].high == 1
+    }
+
+    /// What the values of two nodes that are added, subtracted or compared are multiplied by.
+    pub fn factors(&self, x: usize, y: usize) -> (i64, i64) {
+        self.known[x].kind.factors(self.known[y].kind).unwrap_or((1, 1))
     }
 }
 
@@ -95,14 +130,17 @@ fn facts(table: &[Record]) -> Judged {
     let mut max_of_set = [None; 128];
     each(table, |_, record| {
         let [kind, min, max, has_default, default, set, ..] = *record;
+        let in_order = -M <= min && min <= max && max <= M;
         let bounds = match kind {
             0 => min == 0 && max == 1 && set == 0,
-            1 => -M <= min && min <= max && max <= M && set == 0,
+            1 => in_order && set == 0,
             2 => {
                 min == 0
                     && (0..=255).contains(&max)
                     && below(set, 128).is_some_and(|set| *max_of_set[set].get_or_insert(max) == max)
             }
+            3 => in_order && below(set, 128).is_some(),
+            4 => in_order && below(set, 4).is_some(),
             _ => false,
         };
         let default_good = match has_default {
@@ -129,7 +167,7 @@ fn node(tables: &Tables, known: &mut [Known], record: &Record) -> Option<Known> 
     let [kind, a, b, c, ..] = *record;
     let words = match kind {
         0 | 1 | 3 | 8 | 11 => 1,
-        2 | 4 | 5 | 6 | 9 | 10 => 2,
+        2 | 4 | 5 | 6 | 9 | 10 | 12 | 13 => 2,
         7 => 3,
         _ => return None,
     };
@@ -138,68 +176,66 @@ fn node(tables: &Tables, known: &mut [Known], record: &Record) -> Option<Known> 
     }
     let leaf = |kind, low, high| known_node(kind, low, high, 0);
     match kind {
-        0 => leaf(Type::Int, a, a),
+        0 => leaf(Type::INT, a, a),
         1 => {
             below(a, 2)?;
-            leaf(Type::Bool, a, a)
+            leaf(Type::BOOL, a, a)
         }
         2 => {
             below(a, 256)?;
-            leaf(Type::Enum(below(b, 128)? as u8), a, a)
+            leaf(Type { number: Type::ENUM, of: below(b, 128)? as u8 }, a, a)
         }
         3 => {
             let [kind, min, max, _, _, set, ..] = tables.facts[below(a, tables.facts.len())?];
-            let kind = match kind {
-                0 => Type::Bool,
-                1 => Type::Int,
-                _ => Type::Enum(set as u8),
-            };
-            leaf(kind, min, max)
+            leaf(Type { number: kind as u8, of: set as u8 }, min, max)
         }
         4 | 5 => {
-            let a = name(known, a, Type::Int)?;
-            let b = name(known, b, Type::Int)?;
+            let (x, y) = name_two(known, a, b)?;
+            if !x.kind.measures() {
+                return None;
+            }
             let (low, high) = match kind {
-                4 => (a.low as i64 + b.low as i64, a.high as i64 + b.high as i64),
-                _ => (a.low as i64 - b.high as i64, a.high as i64 - b.low as i64),
+                4 => (x.low as i64 + y.low as i64, x.high as i64 + y.high as i64),
+                _ => (x.low as i64 - y.high as i64, x.high as i64 - y.low as i64),
             };
-            known_node(Type::Int, low, high, a.cited.max(b.cited))
+            known_node(x.kind, low, high, x.cited.max(y.cited))
         }
         6 => {
-            let a = name(known, a, Type::Int)?;
+            let a = name(known, a, Type::INT)?;
             if !(-M..=M).contains(&b) {
                 return None;
             }
             // A negative literal turns the ends.
             let (low, high) = if b < 0 { (a.high, a.low) } else { (a.low, a.high) };
-            known_node(Type::Int, low as i64 * b, high as i64 * b, a.cited)
+            known_node(Type::INT, low as i64 * b, high as i64 * b, a.cited)
         }
         7 => {
             let operator = below(a, 6)?;
-            let x = name_any(known, b)?;
-            let y = name_any(known, c)?;
-            if x.kind != y.kind || (operator >= 2 && x.kind != Type::Int) {
+            let (x, y) = name_two(known, b, c)?;
+            if operator >= 2 && !x.kind.measures() {
                 return None;
             }
             let (some, some_not) = comparison(operator, &x, &y);
-            known_node(Type::Bool, !some_not as i64, some as i64, x.cited.max(y.cited))
+            known_node(Type::BOOL, !some_not as i64, some as i64, x.cited.max(y.cited))
         }
         8 => {
             let rule = below(a, tables.rules.len())?;
-            known_node(Type::Bool, 0, 1, rule as u8 + 1)
+            known_node(Type::BOOL, 0, 1, rule as u8 + 1)
         }
         9 | 10 => {
-            let x = name(known, a, Type::Bool)?;
-            let y = name(known, b, Type::Bool)?;
+            let x = name(known, a, Type::BOOL)?;
+            let y = name(known, b, Type::BOOL)?;
             let (low, high) = match kind {
                 9 => (x.low.min(y.low), x.high.min(y.high)),
                 _ => (x.low.max(y.low), x.high.max(y.high)),
             };
-            known_node(Type::Bool, low as i64, high as i64, x.cited.max(y.cited))
+            known_node(Type::BOOL, low as i64, high as i64, x.cited.max(y.cited))
         }
+        12 => leaf(Type { number: Type::MONEY, of: below(b, 128)? as u8 }, a, a),
+        13 => leaf(Type { number: Type::DURATION, of: below(b, 4)? as u8 }, a, a),
         _ => {
-            let x = name(known, a, Type::Bool)?;
-            known_node(Type::Bool, 1 - x.high as i64, 1 - x.low as i64, x.cited)
+            let x = name(known, a, Type::BOOL)?;
+            known_node(Type::BOOL, 1 - x.high as i64, 1 - x.low as i64, x.cited)
         }
     }
 }
@@ -221,6 +257,21 @@ fn name_any(known: &mut [Known], word: i64) -> Option<Known> {
 /// The same, of a wanted type.
 fn name(known: &mut [Known], word: i64, kind: Type) -> Option<Known> {
     name_any(known, word).filter(|node| node.kind == kind)
+}
+
+/// The two nodes that words name, two durations taken to the smaller of their units. None also where the types do not go
+/// together, or a range leaves −M..M.
+fn name_two(known: &mut [Known], a: i64, b: i64) -> Option<(Known, Known)> {
+    let x = name_any(known, a)?;
+    let y = name_any(known, b)?;
+    if x.kind == y.kind {
+        return Some((x, y));
+    }
+    let (times_x, times_y) = x.kind.factors(y.kind)?;
+    let kind = if times_x == 1 { x.kind } else { y.kind };
+    let taken =
+        |node: Known, times: i64| known_node(kind, node.low as i64 * times, node.high as i64 * times, node.cited);
+    Some((taken(x, times_x)?, taken(y, times_y)?))
 }
 
 /// Does some pair of values of the two ranges satisfy the comparison, and does some pair not?
@@ -245,7 +296,7 @@ fn rules(table: &[Record], known: &mut [Known]) -> Judged {
         let cites_lower = |cited: usize| cited <= rule && (cited == 0 || table[cited - 1][0] < stratum);
         (0..=15).contains(&stratum)
             && !falls
-            && name(known, when, Type::Bool).is_some_and(|node| cites_lower(node.cited as usize))
+            && name(known, when, Type::BOOL).is_some_and(|node| cites_lower(node.cited as usize))
             && unused(record, 2)
     })
 }
@@ -288,7 +339,7 @@ fn operations(tables: &Tables, known: &mut [Known]) -> Judged {
         expected += count;
         mask != 0
             && below(mask, 1 << tables.personas).is_some()
-            && name(known, precondition, Type::Bool).is_some()
+            && name(known, precondition, Type::BOOL).is_some()
             && in_order
             && (1..=8).contains(&outcomes)
             && unused(record, 5)
@@ -350,7 +401,7 @@ fn steps(tables: &Tables, known: &mut [Known]) -> Judged {
                     .is_some_and(|operation| count == tables.operations[operation][4] + 1)
                     && below(persona, tables.personas).is_some()
             }
-            1 => name(known, what, Type::Bool).is_some() && persona == 0 && count == 2,
+            1 => name(known, what, Type::BOOL).is_some() && persona == 0 && count == 2,
             _ => false,
         };
         good && in_order && unused(record, 5)

@@ -27,17 +27,32 @@ impl<'a> World<'a> {
     fn value(&self, node: i64) -> i64 {
         let [kind, a, b, c, ..] = self.sheet.nodes[node as usize];
         match kind {
-            0..=2 => a,
+            0..=2 | 12 | 13 => a,
             3 => self.facts[a as usize],
-            4 => self.value(a) + self.value(b),
-            5 => self.value(a) - self.value(b),
+            4 => {
+                let (x, y) = self.two(a, b);
+                x + y
+            }
+            5 => {
+                let (x, y) = self.two(a, b);
+                x - y
+            }
             6 => self.value(a) * b,
-            7 => compare(a, self.value(b), self.value(c)) as i64,
+            7 => {
+                let (x, y) = self.two(b, c);
+                compare(a, x, y) as i64
+            }
             8 => self.verdicts[a as usize],
             9 => (self.value(a) == 1 && self.value(b) == 1) as i64,
             10 => (self.value(a) == 1 || self.value(b) == 1) as i64,
             _ => 1 - self.value(a),
         }
+    }
+
+    /// The values of two nodes, two durations in the smaller of their units.
+    fn two(&self, a: i64, b: i64) -> (i64, i64) {
+        let (x, y) = self.sheet.factors(a as usize, b as usize);
+        (self.value(a) * x, self.value(b) * y)
     }
 }
 

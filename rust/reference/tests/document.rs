@@ -194,7 +194,7 @@ fn group_sums() {
     assert_eq!(change(&[(10, 4, -1), (11, 4, 6)]), refused(2, 0));
     // The sums are right, the counts are not those of the kinds; a bad record before counts for less than 2.
     assert_eq!(change(&[(10, 4, 3), (11, 4, 2)]), refused(3, 10));
-    assert_eq!(change(&[(0, 0, 3), (10, 4, 4)]), refused(2, 0));
+    assert_eq!(change(&[(0, 0, 5), (10, 4, 4)]), refused(2, 0));
     assert_eq!(change(&[(6, 2, 1)]), refused(3, 6));
     assert_eq!(change(&[(11, 3, 1)]), refused(3, 11));
 }
@@ -219,7 +219,8 @@ fn fact_records() {
     assert!(!one(&[2, 0, 1, 0, 0, 128]));
     assert!(!one(&[2, 0, 1, 0, 0, -1]));
     assert!(!one(&[2, 1, 1]));
-    assert!(!one(&[3, 0, 1]));
+    assert!(!one(&[5, 0, 1]));
+    assert!(!one(&[-1, 0, 1]));
     assert!(!one(&[0, 0, 1, 0, 0, 0, 1]));
     assert!(!one(&[0, 0, 1, 0, 0, 0, 0, 1]));
     let sets = |a, b| check(&logic(&[&[2, 0, 3, 0, 0, a], &[2, 0, 4, 0, 0, b]], &[], &[]));
@@ -259,7 +260,7 @@ fn node_records() {
         &[&[3, 4]],
         &[&[3, -1]],
         &[&[8, 0]],
-        &[&[12]],
+        &[&[14]],
         &[&[-1]],
         &[&[0, 0, 1]],
         &[&[1, 0], &[11, 0, 0, 0, 1]],
@@ -388,7 +389,11 @@ fn every_range_of_a_product_against_every_value() {
                 for v in -10..=10 {
                     let equal = range.contains(&v);
                     let unequal = range != (v..=v);
-                    assert_eq!(product_equals(low, high, n, v), [equal as i64, unequal as i64], "{low}..{high} by {n}, {v}");
+                    assert_eq!(
+                        product_equals(low, high, n, v),
+                        [equal as i64, unequal as i64],
+                        "{low}..{high} by {n}, {v}"
+                    );
                 }
             }
         }
@@ -708,4 +713,470 @@ fn wanted_words_of_a_run() {
     assert_eq!(run(&sheet, &[9], &[1], &mut [9], 0, &[-1, 1], &mut buffer), refused(6, 0));
     // No such flow: its wanted words are not judged.
     assert_eq!(run(&sheet, &[1], &[1], &mut states, 1, &[7; 9], &mut buffer), refused(5, 0));
+}
+
+/// Facts of money and of durations, without a default.
+fn money(currency: i64, min: i64, max: i64) -> [i64; 6] {
+    [3, min, max, 0, 0, currency]
+}
+
+fn duration(unit: i64, min: i64, max: i64) -> [i64; 6] {
+    [4, min, max, 0, 0, unit]
+}
+
+/// The nodes that take nodes 0 and 1: sum, difference and the six comparisons.
+const OVER_TWO: [[i64; 4]; 8] =
+    [[4, 0, 1, 0], [5, 0, 1, 0], [7, 0, 0, 1], [7, 1, 0, 1], [7, 2, 0, 1], [7, 3, 0, 1], [7, 4, 0, 1], [7, 5, 0, 1]];
+
+/// How often the second unit goes into the first one: days, hours, minutes, seconds.
+const IN_A_UNIT: [[i64; 4]; 4] = [[1, 24, 1_440, 86_400], [0, 1, 60, 3_600], [0, 0, 1, 60], [0, 0, 0, 1]];
+
+/// Is every sum, difference and comparison of the two facts good, either way round? None of them may be otherwise.
+fn go_together(x: &[i64], y: &[i64]) -> bool {
+    let answers = OVER_TWO
+        .iter()
+        .flat_map(|over| [[x, y], [y, x]].map(|[x, y]| check(&logic(&[x, y], &[&[3, 0], &[3, 1], over], &[]))));
+    let answers: Vec<Answer> = answers.collect();
+    assert!(answers.iter().all(|answer| *answer == answers[0]), "{x:?} {y:?}");
+    assert!([good(0, 0), refused(3, 4)].contains(&answers[0]), "{x:?} {y:?}");
+    answers[0] == good(0, 0)
+}
+
+/// The verdict of one rule over literals or facts without a choice; the rule is on the last node.
+fn verdict(facts: &[&[i64]], nodes: &[&[i64]]) -> bool {
+    let sheet = logic(facts, nodes, &[&[0, nodes.len() as i64 - 1]]);
+    let values: Vec<i64> = facts.iter().map(|fact| fact[1]).collect();
+    let mut verdicts_found = [7];
+    assert_eq!(verdicts(&sheet, &values, &vec![1; facts.len()], &mut verdicts_found), good(0, 0), "{nodes:?}");
+    verdicts_found == [1]
+}
+
+/// What S3a says of the last node, and of its negation.
+fn may_hold(facts: &[&[i64]], nodes: &[&[i64]]) -> [i64; 2] {
+    let root = nodes.len() as i64 - 1;
+    let negated = [11, root];
+    let longer: Vec<&[i64]> = nodes.iter().copied().chain([&negated[..]]).collect();
+    [nodes, &longer].map(|nodes| {
+        let operation = [1, nodes.len() as i64 - 1, 0, 1, 1];
+        let rest: [&[&[i64]]; 4] = [&[&[1, 0]], &[&[0, 0, 0]], &[&operation], &[&[0, 0, 0, 0]]];
+        let sheet = sheet(1, [facts, nodes, &[], rest[0], rest[1], rest[2], rest[3], &[], &[], &[]]);
+        let answer = admissible(&sheet, 0, 0, 0, 0);
+        assert_eq!(answer, good(answer.value, 0), "{nodes:?}");
+        answer.value
+    })
+}
+
+#[test]
+fn facts_of_money_and_durations() {
+    let one = |fact: &[i64]| check(&logic(&[fact], &[], &[])).refusal == 0;
+    for (kind, most) in [(3, 127), (4, 3)] {
+        for word in 0..=most {
+            assert!(one(&[kind, 0, 1, 0, 0, word]), "{kind} {word}");
+        }
+        for word in [-1, most + 1, 128, i64::MIN, i64::MAX] {
+            assert!(!one(&[kind, 0, 1, 0, 0, word]), "{kind} {word}");
+        }
+        assert!(one(&[kind, -M, M, 0, 0, 1]));
+        assert!(one(&[kind, -M, -M, 0, 0, 1]));
+        assert!(one(&[kind, M, M, 0, 0, 1]));
+        assert!(!one(&[kind, -M - 1, M, 0, 0, 1]));
+        assert!(!one(&[kind, -M, M + 1, 0, 0, 1]));
+        assert!(!one(&[kind, i64::MIN, 0, 0, 0, 1]));
+        assert!(!one(&[kind, 0, i64::MAX, 0, 0, 1]));
+        assert!(!one(&[kind, 2, 1, 0, 0, 1]));
+        assert!(one(&[kind, 5, 7, 0, 0, 1]), "without a default the word is 0, also outside min..max");
+        assert!(one(&[kind, 5, 7, 1, 5, 1]));
+        assert!(one(&[kind, 5, 7, 1, 7, 1]));
+        assert!(!one(&[kind, 5, 7, 1, 4, 1]));
+        assert!(!one(&[kind, 5, 7, 1, 8, 1]));
+        assert!(!one(&[kind, 5, 7, 1, 0, 1]));
+        assert!(!one(&[kind, 5, 7, 0, 6, 1]));
+        assert!(!one(&[kind, 5, 7, 2, 6, 1]));
+        assert!(!one(&[kind, 5, 7, -1, 6, 1]));
+        assert!(!one(&[kind, 0, 1, 0, 0, 1, 1]));
+        assert!(!one(&[kind, 0, 1, 0, 0, 1, 0, 1]));
+    }
+    // An Int has no set, a Bool neither.
+    assert!(!one(&[1, 0, 1, 0, 0, 1]));
+    assert!(!one(&[0, 0, 1, 0, 0, 1]));
+    // One max is for the facts of one set of Enums alone.
+    let sets: [&[i64]; 7] = [
+        &[2, 0, 3, 0, 0, 2],
+        &[3, 0, 9, 0, 0, 2],
+        &[3, -4, 8, 0, 0, 2],
+        &[4, 0, 7, 0, 0, 2],
+        &[4, 0, 6, 0, 0, 2],
+        &[2, 0, 3, 0, 0, 2],
+        &[2, 0, 9, 0, 0, 2],
+    ];
+    assert_eq!(check(&logic(&sets[..6], &[], &[])), good(0, 0));
+    assert_eq!(check(&logic(&sets, &[], &[])), refused(3, 6));
+    assert_eq!(check(&logic(&sets[1..5], &[], &[])), good(0, 0));
+    // Values and defaults, as for Int.
+    let sheet = logic(&[&[3, -5, 9, 1, -2, 127], &[4, 10, 20, 0, 0, 3], &[4, -1, 1, 1, 1, 0]], &[], &[]);
+    for (values, given, answer, after) in [
+        ([77, 10, 77], [0, 1, 0], good(0, 0), [-2, 10, 1]),
+        ([-5, 20, -1], [1, 1, 1], good(0, 0), [-5, 20, -1]),
+        ([9, 15, 0], [1, 1, 1], good(0, 0), [9, 15, 0]),
+        ([10, 15, 0], [1, 1, 1], refused(6, 0), [10, 15, 0]),
+        ([-6, 9, 0], [1, 0, 1], refused(6, 0), [-6, 9, 0]),
+        ([0, 9, 0], [1, 1, 1], refused(6, 1), [0, 9, 0]),
+        ([0, 21, 2], [1, 1, 1], refused(6, 1), [0, 21, 2]),
+        ([0, 10, 2], [1, 1, 1], refused(6, 2), [0, 10, 2]),
+        ([0, 10, 0], [1, 0, 1], refused(7, 1), [0, 10, 0]),
+        ([0, 10, 0], [1, 1, 2], refused(6, 2), [0, 10, 0]),
+    ] {
+        let mut left = values;
+        assert_eq!(assemble(&sheet, &mut left, &given), answer, "{values:?} {given:?}");
+        assert_eq!(left, after);
+    }
+}
+
+#[test]
+fn literals_of_money_and_durations() {
+    let one = |node: &[i64]| check(&logic(&[], &[node], &[])).refusal == 0;
+    for (kind, most) in [(12, 127), (13, 3)] {
+        for word in 0..=most {
+            assert!(one(&[kind, -7, word]), "{kind} {word}");
+        }
+        for word in [-1, most + 1, 128, 1 << 32, i64::MIN, i64::MAX] {
+            assert!(!one(&[kind, 0, word]), "{kind} {word}");
+        }
+        assert!(one(&[kind, M, 1]));
+        assert!(one(&[kind, -M, 1]));
+        for v in [M + 1, -M - 1, i64::MIN, i64::MAX] {
+            assert!(!one(&[kind, v, 1]), "{kind} {v}");
+        }
+        for word in 3..8 {
+            let mut node = [kind, 5, 1, 0, 0, 0, 0, 0];
+            assert!(one(&node));
+            node[word] = 1;
+            assert!(!one(&node), "{kind}, word {word}");
+        }
+    }
+    assert!(!one(&[14]));
+    assert!(!one(&[14, 5, 1]));
+}
+
+/// Every type, as facts: Bool, Int, Enums of two sets, money of two currencies, durations of all units.
+const OF_EVERY_TYPE: [[i64; 6]; 10] = [
+    [0, 0, 1, 0, 0, 0],
+    [1, 0, 1, 0, 0, 0],
+    [2, 0, 1, 0, 0, 0],
+    [2, 0, 1, 0, 0, 1],
+    [3, 0, 1, 0, 0, 0],
+    [3, 0, 1, 0, 0, 1],
+    [4, 0, 1, 0, 0, 0],
+    [4, 0, 1, 0, 0, 1],
+    [4, 0, 1, 0, 0, 2],
+    [4, 0, 1, 0, 0, 3],
+];
+
+#[test]
+fn which_types_go_together() {
+    for x in OF_EVERY_TYPE {
+        for y in OF_EVERY_TYPE {
+            let same = x == y || (x[0] == 4 && y[0] == 4);
+            for over in OVER_TWO {
+                let good_node = match over {
+                    [7, 0 | 1, ..] => same,
+                    _ => same && [1, 3, 4].contains(&x[0]),
+                };
+                let expected = if good_node { good(0, 0) } else { refused(3, 4) };
+                assert_eq!(check(&logic(&[&x, &y], &[&[3, 0], &[3, 1], &over], &[])), expected, "{x:?} {y:?} {over:?}");
+            }
+            for and_or in [[9, 0, 1], [10, 0, 1]] {
+                let expected = if x[0] == 0 && y[0] == 0 { good(0, 0) } else { refused(3, 4) };
+                assert_eq!(check(&logic(&[&x, &y], &[&[3, 0], &[3, 1], &and_or], &[])), expected, "{x:?} {y:?}");
+            }
+        }
+        let over = |node: &[i64]| check(&logic(&[&x], &[&[3, 0], node], &[]));
+        for n in [-1, 0, 1, 2] {
+            let expected = if x[0] == 1 { good(0, 0) } else { refused(3, 2) };
+            assert_eq!(over(&[6, 0, n]), expected, "{x:?} x {n}");
+        }
+        let of_bool = |place: i64| if x[0] == 0 { good(0, 0) } else { refused(3, place) };
+        assert_eq!(over(&[11, 0]), of_bool(2), "not {x:?}");
+        assert_eq!(check(&logic(&[&x], &[&[3, 0]], &[&[0, 0]])), of_bool(2), "a rule on {x:?}");
+        let (one, way): (&[i64], &[i64]) = (&[1, 0], &[0, 0, 0]);
+        let operation =
+            sheet(1, [&[&x], &[&[3, 0]], &[], &[one], &[way], &[&[1, 0, 0, 1, 1]], &[&[0, 0, 0, 0]], &[], &[], &[]]);
+        assert_eq!(check(&operation), of_bool(4), "an operation on {x:?}");
+        let step: &[i64] = &[1, 0, 0, 0, 2];
+        let end: &[i64] = &[1, 0];
+        let branch = sheet(0, [&[&x], &[&[3, 0]], &[], &[], &[], &[], &[], &[&[0, 1]], &[step], &[end, end]]);
+        assert_eq!(check(&branch), of_bool(3), "a branch on {x:?}");
+    }
+    // The literals have these types too.
+    let leaves: [&[i64]; 8] =
+        [&[0, 1], &[2, 1, 0], &[12, 1, 0], &[12, 1, 1], &[13, 1, 0], &[13, 1, 1], &[13, 1, 2], &[13, 1, 3]];
+    let facts = [1, 2, 4, 5, 6, 7, 8, 9].map(|k| &OF_EVERY_TYPE[k]);
+    for (i, leaf) in leaves.into_iter().enumerate() {
+        for (k, other) in leaves.into_iter().enumerate() {
+            for over in OVER_TWO {
+                let by_facts = check(&logic(&[facts[i], facts[k]], &[&[3, 0], &[3, 1], &over], &[]));
+                let by_both = check(&logic(&[facts[i], facts[k]], &[leaf, &[3, 1], &over], &[]));
+                let by_literals = check(&logic(&[facts[i], facts[k]], &[leaf, other, &over], &[]));
+                assert_eq!((by_literals, by_both), (by_facts, by_facts), "{leaf:?} {other:?} {over:?}");
+            }
+        }
+    }
+}
+
+#[test]
+fn money_within_one_currency() {
+    for currency in 0..128 {
+        assert!(go_together(&money(currency, -5, 9), &money(currency, 0, 70)));
+        let other = (currency + 1) % 128;
+        assert!(!go_together(&money(currency, -5, 9), &money(other, -5, 9)));
+        assert!(!go_together(&money(currency, 0, 0), &[1, 0, 0]));
+        assert!(!go_together(&money(currency, 0, 0), &duration(currency % 4, 0, 0)));
+    }
+    // The result has the currency: it goes with that one, and with no other.
+    for over in [[4, 0, 1], [5, 0, 1]] {
+        for currency in [3, 4, 5] {
+            let node = logic(&[], &[&[12, 1, 4], &[12, 2, 4], &over, &[12, 3, currency], &[7, 0, 2, 3]], &[]);
+            assert_eq!(check(&node), if currency == 4 { good(0, 0) } else { refused(3, 4) });
+        }
+        let node = logic(&[], &[&[12, 1, 4], &[12, 2, 4], &over, &[0, 3], &[7, 0, 2, 3]], &[]);
+        assert_eq!(check(&node), refused(3, 4));
+    }
+    // The result stays within -M..M.
+    for (min, max, v, over, fits) in [
+        (0, M, 0, [4, 0, 1], true),
+        (0, M, 1, [4, 0, 1], false),
+        (-M, 0, -1, [4, 0, 1], false),
+        (-M, 0, M, [4, 0, 1], true),
+        (-M, 0, 0, [5, 0, 1], true),
+        (-M, 0, 1, [5, 0, 1], false),
+        (0, M, -1, [5, 0, 1], false),
+        (0, M, M, [5, 0, 1], true),
+    ] {
+        let node = logic(&[&money(9, min, max)], &[&[3, 0], &[12, v, 9], &over], &[]);
+        assert_eq!(check(&node), if fits { good(0, 0) } else { refused(3, 3) }, "{min}..{max} {v} {over:?}");
+    }
+    // Ranges and values are those of Ints.
+    for v in -7..=12 {
+        let (x, y) = (money(2, -2, 3), money(2, 1, 4));
+        let sum = may_hold(&[&x, &y], &[&[3, 0], &[3, 1], &[4, 0, 1], &[12, v, 2], &[7, 0, 2, 3]]);
+        assert_eq!(sum, [(-1..=7).contains(&v) as i64, 1], "{v}");
+        let difference = may_hold(&[&x, &y], &[&[3, 0], &[3, 1], &[5, 0, 1], &[12, v, 2], &[7, 0, 2, 3]]);
+        assert_eq!(difference, [(-6..=2).contains(&v) as i64, 1], "{v}");
+    }
+    assert!(verdict(&[&money(2, 30, 30)], &[&[3, 0], &[12, 12, 2], &[4, 0, 1], &[12, 42, 2], &[7, 0, 2, 3]]));
+    assert!(verdict(&[&money(2, 30, 30)], &[&[3, 0], &[12, 42, 2], &[5, 0, 1], &[12, -12, 2], &[7, 0, 2, 3]]));
+    for (operator, holds) in [false, true, true, true, false, false].into_iter().enumerate() {
+        assert_eq!(verdict(&[], &[&[12, 3, 2], &[12, 4, 2], &[7, operator as i64, 0, 1]]), holds);
+    }
+}
+
+#[test]
+fn a_day_is_24_hours() {
+    for (v, unit, w, other) in [
+        (24, 1, 1, 0),
+        (1_440, 2, 1, 0),
+        (86_400, 3, 1, 0),
+        (60, 2, 1, 1),
+        (3_600, 3, 1, 1),
+        (60, 3, 1, 2),
+        (-48, 1, -2, 0),
+        (0, 3, 0, 0),
+        (999_993_600, 3, 11_574, 0),
+    ] {
+        let holds = |operator: i64, v: i64| {
+            let one_way = verdict(&[], &[&[13, v, unit], &[13, w, other], &[7, operator, 0, 1]]);
+            let turned = [0, 1, 4, 5, 2, 3][operator as usize];
+            assert_eq!(verdict(&[], &[&[13, w, other], &[13, v, unit], &[7, turned, 0, 1]]), one_way);
+            one_way
+        };
+        assert_eq!([0, 1, 2, 3, 4, 5].map(|operator| holds(operator, v)), [true, false, false, true, false, true]);
+        assert_eq!([0, 1, 2, 3, 4, 5].map(|operator| holds(operator, v - 1)), [false, true, true, true, false, false]);
+        assert_eq!([0, 1, 2, 3, 4, 5].map(|operator| holds(operator, v + 1)), [false, true, false, false, true, true]);
+    }
+    // A sum and a difference of a day and a second.
+    for (over, seconds) in [([4, 0, 1], 86_401), ([5, 0, 1], 86_399), ([5, 1, 0], -86_399)] {
+        assert!(verdict(&[], &[&[13, 1, 0], &[13, 1, 3], &over, &[13, seconds, 3], &[7, 0, 2, 3]]));
+        assert!(!verdict(&[], &[&[13, 1, 0], &[13, 1, 3], &over, &[13, seconds + 1, 3], &[7, 0, 2, 3]]));
+        assert!(!verdict(&[], &[&[13, 1, 0], &[13, 1, 3], &over, &[13, 1, 0], &[7, 0, 2, 3]]));
+    }
+}
+
+#[test]
+fn two_units_are_taken_to_the_smaller() {
+    for unit in 0..4 {
+        for other in 0..4 {
+            let smaller = unit.max(other);
+            let times = |from: i64| IN_A_UNIT[from as usize][smaller as usize];
+            for (x, y) in [(0, 0), (1, 1), (3, -2), (-5, 7), (11, 0)] {
+                let (facts, leaves): ([&[i64]; 2], [&[i64]; 2]) =
+                    ([&duration(unit, x, x), &duration(other, y, y)], [&[3, 0], &[3, 1]]);
+                let taken = (x * times(unit), y * times(other));
+                for (over, value) in [([4, 0, 1], taken.0 + taken.1), ([5, 0, 1], taken.0 - taken.1)] {
+                    // In the smaller unit, and in any smaller one yet.
+                    for third in smaller..4 {
+                        let v = value * IN_A_UNIT[smaller as usize][third as usize];
+                        let equals = |v| {
+                            let nodes: [&[i64]; 5] = [leaves[0], leaves[1], &over, &[13, v, third], &[7, 0, 2, 3]];
+                            (verdict(&facts, &nodes), may_hold(&facts, &nodes))
+                        };
+                        assert_eq!(equals(v), (true, [1, 0]), "{x} {unit} {y} {other} {over:?}");
+                        assert_eq!(equals(v + 1), (false, [0, 1]), "{x} {unit} {y} {other} {over:?}");
+                    }
+                }
+                for operator in 0..6 {
+                    let holds = [
+                        taken.0 == taken.1,
+                        taken.0 != taken.1,
+                        taken.0 < taken.1,
+                        taken.0 <= taken.1,
+                        taken.0 > taken.1,
+                        taken.0 >= taken.1,
+                    ][operator as usize];
+                    let nodes: [&[i64]; 3] = [leaves[0], leaves[1], &[7, operator, 0, 1]];
+                    assert_eq!(verdict(&facts, &nodes), holds, "{x} {unit} {y} {other} operator {operator}");
+                    assert_eq!(may_hold(&facts, &nodes), [holds as i64, !holds as i64]);
+                }
+            }
+            // The result's unit: M of it go with a third unit, unless that is smaller yet.
+            for over in [[4, 0, 1], [5, 0, 1]] {
+                for third in 0..4 {
+                    let most = M / IN_A_UNIT[smaller as usize][third as usize].max(1);
+                    for v in (most..=M).take(2) {
+                        let sum: [&[i64]; 5] = [&[13, 0, unit], &[13, 0, other], &over, &[13, v, smaller], &[4, 2, 3]];
+                        let with_third: [&[i64]; 2] = [&[13, 0, third], &[7, 0, 4, 5]];
+                        let expected = if v == most { good(0, 0) } else { refused(3, 6) };
+                        let sheet = logic(&[], &[&sum[..], &with_third].concat(), &[]);
+                        assert_eq!(check(&sheet), expected, "{unit} {other} {third} {v}");
+                    }
+                }
+            }
+        }
+    }
+}
+
+#[test]
+fn a_converted_range_stays_within_m() {
+    // How many of the first unit are at most M of the second one.
+    for (unit, other, most) in
+        [(0, 1, 41_666_666), (0, 2, 694_444), (0, 3, 11_574), (1, 2, 16_666_666), (1, 3, 277_777), (2, 3, 16_666_666)]
+    {
+        let zero = duration(other, 0, 0);
+        for (min, max, fits) in [
+            (most, most, true),
+            (-most, -most, true),
+            (-most, most, true),
+            (most + 1, most + 1, false),
+            (0, most + 1, false),
+            (-most, most + 1, false),
+            (-most - 1, -most - 1, false),
+            (-most - 1, 0, false),
+            (-most - 1, most, false),
+            (M, M, false),
+            (-M, -M, false),
+            (-M, M, false),
+        ] {
+            assert_eq!(go_together(&duration(unit, min, max), &zero), fits, "{min}..{max} of {unit}, {other}");
+            // Units that are the same are not converted.
+            assert!(go_together(&duration(unit, min, max), &duration(unit, 0, 0)));
+        }
+        // The smaller unit is not converted either, nor made larger.
+        assert!(go_together(&duration(other, M, M), &duration(unit, 0, 0)));
+        assert!(go_together(&duration(other, -M, -M), &duration(unit, 0, 0)));
+    }
+    assert!(go_together(&duration(3, -M, M), &duration(0, 0, 0)));
+    for unit in 0..4 {
+        assert!(go_together(&duration(unit, -M, M), &duration(unit, 0, 0)));
+    }
+    // The result: 11,574 days are 999,993,600 seconds.
+    let over =
+        |days: i64, seconds: i64, over: &[i64]| check(&logic(&[], &[&[13, days, 0], &[13, seconds, 3], over], &[]));
+    for (days, seconds, kind, fits) in [
+        (11_574, 6_400, 4, true),
+        (11_574, 6_401, 4, false),
+        (-11_574, -6_400, 4, true),
+        (-11_574, -6_401, 4, false),
+        (11_574, -6_400, 5, true),
+        (11_574, -6_401, 5, false),
+        (-11_574, 6_400, 5, true),
+        (-11_574, 6_401, 5, false),
+        (11_574, M, 5, true),
+        (-11_574, M, 4, true),
+        (11_575, -M, 4, false),
+        (11_575, M, 5, false),
+    ] {
+        let expected = if fits { good(0, 0) } else { refused(3, 2) };
+        assert_eq!(over(days, seconds, &[kind, 0, 1]), expected, "{days} {seconds} {kind}");
+    }
+    for operator in 0..6 {
+        assert_eq!(over(11_574, M, &[7, operator, 0, 1]), good(0, 0));
+        assert_eq!(over(11_575, M, &[7, operator, 0, 1]), refused(3, 2));
+        assert_eq!(over(-11_575, 0, &[7, operator, 0, 1]), refused(3, 2));
+    }
+    // Durations in one unit: the sums of 01.
+    for unit in 0..4 {
+        let sum = |v| check(&logic(&[&duration(unit, 0, M)], &[&[3, 0], &[13, v, unit], &[4, 0, 1]], &[]));
+        assert_eq!((sum(0), sum(1)), (good(0, 0), refused(3, 3)));
+    }
+}
+
+#[test]
+fn every_comparison_range_over_the_whole_numbers_of_the_converted_ranges() {
+    // 1..2 days are 86,400..172,800 seconds, whether or not a number between them is one of whole days.
+    for (v, expected) in [
+        (86_399, [0, 1]),
+        (86_400, [1, 1]),
+        (86_401, [1, 1]),
+        (100_000, [1, 1]),
+        (172_799, [1, 1]),
+        (172_800, [1, 1]),
+        (172_801, [0, 1]),
+    ] {
+        let equal = may_hold(&[&duration(0, 1, 2)], &[&[3, 0], &[13, v, 3], &[7, 0, 0, 1]]);
+        assert_eq!(equal, expected, "{v}");
+        let equal = may_hold(&[&duration(0, 1, 2)], &[&[13, v, 3], &[3, 0], &[7, 0, 0, 1]]);
+        assert_eq!(equal, expected, "{v}");
+    }
+    // Hours and minutes, in ranges about each other's ends.
+    for operator in 0..6 {
+        for (low, high) in [(-1, -1), (-1, 0), (0, 0), (0, 1), (1, 1), (1, 2)] {
+            for (a, b) in [(-61, -60), (-59, 1), (0, 0), (0, 59), (60, 60), (61, 61), (59, 61), (119, 120), (121, 130)]
+            {
+                let pairs = (60 * low..=60 * high).flat_map(|x| (a..=b).map(move |y| (x, y)));
+                let holds = |(x, y): (i64, i64)| [x == y, x != y, x < y, x <= y, x > y, x >= y][operator as usize];
+                let (mut some, mut some_not) = (0, 0);
+                pairs.for_each(|pair| if holds(pair) { some = 1 } else { some_not = 1 });
+                let (x, y) = (duration(1, low, high), duration(2, a, b));
+                let found = may_hold(&[&x, &y], &[&[3, 0], &[3, 1], &[7, operator, 0, 1]]);
+                assert_eq!(found, [some, some_not], "{low}..{high} hours, {a}..{b} minutes, operator {operator}");
+            }
+        }
+    }
+    // Sums and differences: low and high ends, converted.
+    for (v, sum, difference) in [
+        (-2_999, 0, 1),
+        (-3_000, 0, 1),
+        (-3_001, 0, 1),
+        (-10_801, 0, 0),
+        (3_599, 0, 0),
+        (3_600, 1, 0),
+        (3_601, 1, 0),
+        (10_800, 1, 0),
+        (10_801, 0, 0),
+    ] {
+        // 1..2 hours and 0..3,600 seconds; the second less the first is -7,200..0.
+        let facts: [&[i64]; 2] = [&duration(1, 1, 2), &duration(3, 0, 3_600)];
+        let equals = |over: &[i64]| may_hold(&facts, &[&[3, 0], &[3, 1], over, &[13, v, 3], &[7, 0, 2, 3]]);
+        assert_eq!(equals(&[4, 0, 1]), [sum, 1], "{v}");
+        assert_eq!(equals(&[5, 1, 0]), [difference, 1], "{v}");
+    }
+}
+
+#[test]
+fn sizes_of_trees_with_money_and_durations() {
+    let nodes: [&[i64]; 7] =
+        [&[12, 1, 0], &[12, 2, 0], &[4, 0, 1], &[12, 3, 0], &[7, 0, 2, 3], &[13, 1, 3], &[13, 1, 0]];
+    let sheet = logic(&[], &nodes, &[]);
+    for (node, size) in [1, 1, 3, 1, 5, 1, 1].into_iter().enumerate() {
+        assert_eq!(tree_size(&sheet, node as i64), good(size, 0));
+    }
 }

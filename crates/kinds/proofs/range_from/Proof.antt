@@ -2,7 +2,7 @@
 use Rattle.signed.proofs.Fit.{back-of}
 use Rattle.node.specs.Rows.{rowOf}
 use Rattle.node.proofs.Judged.{past, row-past}
-use Rattle.kinds.proofs.TakenLaws.{int-part, bool-part, enum-part, product-part}
+use Rattle.kinds.proofs.TakenLaws.{part-taken, product-part}
 use borrow.Author.Needs.{needs}
 use Rattle.kinds.proofs.range_from.Statement.{statement}
 use Rattle.kinds.proofs.range_from.Tie as tie
@@ -10,17 +10,17 @@ use Rattle.kinds.proofs.range_from.Tie as tie
 literal-range-requires : tie.Need-literal-range-requires
 literal-range-requires c κs =
     let at-start = c .before .before .before .before .before in
-    (search needs, int-part _ _ (at-start .pre .1) (c .match .keys1))
+    (search needs, part-taken _ _ (at-start .pre .1) (rw (c .match .keys1)))
 
 literal-range-requires-2 : tie.Need-literal-range-requires-2
 literal-range-requires-2 c κs =
     let at-start = c .before .before .before .before .before in
-    (search needs, bool-part _ _ (at-start .pre .1) (c .match .keys2))
+    (search needs, part-taken _ _ (at-start .pre .1) (rw (c .match .keys2)))
 
 literal-range-requires-3 : tie.Need-literal-range-requires-3
 literal-range-requires-3 c κs =
     let at-start = c .before .before .before .before .before in
-    (search needs, enum-part _ _ (at-start .pre .1) (c .match .keys3))
+    (search needs, part-taken _ _ (at-start .pre .1) (rw (c .match .keys3)))
 
 sum-requires : tie.Need-sum-requires
 sum-requires c κs = search needs
@@ -52,6 +52,16 @@ either-requires c κs = search needs
 
 negation-requires : tie.Need-negation-requires
 negation-requires c κs = search needs
+
+literal-range-requires-4 : tie.Need-literal-range-requires-4
+literal-range-requires-4 c κs =
+    let at-start = c .before .before .before .before .before in
+    (search needs, part-taken _ _ (at-start .pre .1) (rw (c .match .keys13)))
+
+literal-range-requires-5 : tie.Need-literal-range-requires-5
+literal-range-requires-5 c κs =
+    let at-start = c .before .before .before .before .before in
+    (search needs, part-taken _ _ (at-start .pre .1) (rw (c .match .keys14)))
 
 span-requires-2 : tie.Need-span-requires-2
 span-requires-2 c κs = search needs
@@ -117,7 +127,15 @@ unfolding rowOf
 returns-12 c = rw (c .before .match .keys12, c .negation .ensures)
 
 returns-13 : tie.Need-returns-13
-returns-13 c = rw (row-past _ (past 12 _ (c .before .match .rest)), c .span2 .ensures)
+unfolding rowOf
+returns-13 c = rw (c .before .match .keys13, c .literal-range4 .ensures)
+
+returns-14 : tie.Need-returns-14
+unfolding rowOf
+returns-14 c = rw (c .before .match .keys14, c .literal-range5 .ensures)
+
+returns-15 : tie.Need-returns-15
+returns-15 c = rw (row-past _ (past 14 _ (c .before .match .rest)), c .span2 .ensures)
 
 pub range-from-spec : {M : Type 1} → statement M
 range-from-spec =
@@ -135,6 +153,8 @@ range-from-spec =
     both-requires
     either-requires
     negation-requires
+    literal-range-requires-4
+    literal-range-requires-5
     span-requires-2
     returns
     returns-2
@@ -148,4 +168,6 @@ range-from-spec =
     returns-10
     returns-11
     returns-12
-    returns-13)
+    returns-13
+    returns-14
+    returns-15)

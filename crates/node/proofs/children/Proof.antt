@@ -45,6 +45,12 @@ one-kid-requires-2 c κs = search needs
 no-kids-requires-6 : tie.Need-no-kids-requires-6
 no-kids-requires-6 c κs = search needs
 
+no-kids-requires-7 : tie.Need-no-kids-requires-7
+no-kids-requires-7 c κs = search needs
+
+no-kids-requires-8 : tie.Need-no-kids-requires-8
+no-kids-requires-8 c κs = search needs
+
 returns : tie.Need-returns
 unfolding rowOf
 returns c = rw (c .before .match .keys1) (c .no-kids .ensures)
@@ -94,7 +100,15 @@ unfolding rowOf
 returns-12 c = rw (c .before .match .keys12) (c .one-kid2 .ensures)
 
 returns-13 : tie.Need-returns-13
-returns-13 c = rw (row-past _ (past 12 _ (c .before .match .rest))) (c .no-kids6 .ensures)
+unfolding rowOf
+returns-13 c = rw (c .before .match .keys13) (c .no-kids6 .ensures)
+
+returns-14 : tie.Need-returns-14
+unfolding rowOf
+returns-14 c = rw (c .before .match .keys14) (c .no-kids7 .ensures)
+
+returns-15 : tie.Need-returns-15
+returns-15 c = rw (row-past _ (past 14 _ (c .before .match .rest))) (c .no-kids8 .ensures)
 
 pub children-spec : {M : Type 1} → statement M
 children-spec =
@@ -113,6 +127,8 @@ children-spec =
     two-kids-requires-4
     one-kid-requires-2
     no-kids-requires-6
+    no-kids-requires-7
+    no-kids-requires-8
     returns
     returns-2
     returns-3
@@ -125,4 +141,6 @@ children-spec =
     returns-10
     returns-11
     returns-12
-    returns-13)
+    returns-13
+    returns-14
+    returns-15)

@@ -21,11 +21,20 @@ fact-named-requires c κs = search needs
 present-requires : tie.Need-present-requires
 present-requires c κs = search needs
 
+literal-requires-4 : tie.Need-literal-requires-4
+literal-requires-4 c κs = search needs
+
+literal-requires-5 : tie.Need-literal-requires-5
+literal-requires-5 c κs = search needs
+
 bad-requires : tie.Need-bad-requires
 bad-requires c κs = search needs
 
 bad-requires-2 : tie.Need-bad-requires-2
 bad-requires-2 c κs = search needs
+
+bad-requires-3 : tie.Need-bad-requires-3
+bad-requires-3 c κs = search needs
 
 returns : tie.Need-returns
 unfolding rowOf
@@ -48,18 +57,36 @@ unfolding rowOf
 returns-5 c = rw (c .before .match .keys5, c .present .ensures)
 
 returns-6 : tie.Need-returns-6
-returns-6 c =
-    let at-match = c .before .before in
-    let at-start = at-match .before in
-    let x = at-match .match .rest in
-    rw (c .bad .ensures) (leaf-rest _ _ (x .0 .0 .0 .0 .1) (x .0 .0 .0 .1) (x .0 .0 .1) (x .0 .1) (x .1) (at-start .pre))
+unfolding rowOf
+returns-6 c = rw (c .before .match .keys6, c .literal4 .ensures)
 
 returns-7 : tie.Need-returns-7
-returns-7 c =
+unfolding rowOf
+returns-7 c = rw (c .before .match .keys7, c .literal5 .ensures)
+
+returns-8 : tie.Need-returns-8
+returns-8 c =
     let at-match = c .before .before in
     let at-start = at-match .before in
     let x = at-match .match .rest in
-    rw (c .bad2 .ensures) (leaf-rest _ _ (x .0 .0 .0 .0 .1) (x .0 .0 .0 .1) (x .0 .0 .1) (x .0 .1) (x .1) (at-start .pre))
+    rw (c .bad .ensures) (leaf-rest _ _ (x .0 .0 .0 .0 .0 .0 .1) (x .0 .0 .0 .0 .0 .1) (x .0 .0 .0 .0 .1) (x .0 .0 .0 .1) (x .0 .0 .1) (x .0 .1) (x .1)
+    (at-start .pre))
+
+returns-9 : tie.Need-returns-9
+returns-9 c =
+    let at-match = c .before .before .before in
+    let at-start = at-match .before in
+    let x = at-match .match .rest in
+    rw (c .bad2 .ensures) (leaf-rest _ _ (x .0 .0 .0 .0 .0 .0 .1) (x .0 .0 .0 .0 .0 .1) (x .0 .0 .0 .0 .1) (x .0 .0 .0 .1) (x .0 .0 .1) (x .0 .1) (x .1)
+    (at-start .pre))
+
+returns-10 : tie.Need-returns-10
+returns-10 c =
+    let at-match = c .before .before .before in
+    let at-start = at-match .before in
+    let x = at-match .match .rest in
+    rw (c .bad3 .ensures) (leaf-rest _ _ (x .0 .0 .0 .0 .0 .0 .1) (x .0 .0 .0 .0 .0 .1) (x .0 .0 .0 .0 .1) (x .0 .0 .0 .1) (x .0 .0 .1) (x .0 .1) (x .1)
+    (at-start .pre))
 
 pub judge-leaf-spec : {M : Type 1} → statement M
 judge-leaf-spec = tie.close (tie.spec
@@ -68,12 +95,18 @@ judge-leaf-spec = tie.close (tie.spec
     literal-requires-3
     fact-named-requires
     present-requires
+    literal-requires-4
+    literal-requires-5
     bad-requires
     bad-requires-2
+    bad-requires-3
     returns
     returns-2
     returns-3
     returns-4
     returns-5
     returns-6
-    returns-7)
+    returns-7
+    returns-8
+    returns-9
+    returns-10)

@@ -1,107 +1,36 @@
 -- `node::judge_parent` meets its contract. Assumes nothing.
-use mathlib.Core.Path.{refl}
-use Rattle.node.proofs.OneKind.{parent-rest, parent-other}
-use Rattle.node.specs.Rows.{rowOf}
+use mathlib.Core.Path.{_∙_}
+use Rattle.node.proofs.Judged.{kids-small, parent-judged, parent-bad}
 use borrow.Author.Needs.{needs}
 use Rattle.node.proofs.judge_parent.Statement.{statement}
 use Rattle.node.proofs.judge_parent.Tie as tie
 
-sums-requires : tie.Need-sums-requires
-sums-requires c κs = search needs
+small-requires : tie.Need-small-requires
+small-requires c κs = search needs
 
-differences-requires : tie.Need-differences-requires
-differences-requires c κs = search needs
+small-requires-2 : tie.Need-small-requires-2
+small-requires-2 c κs = search needs
 
-product-requires : tie.Need-product-requires
-product-requires c κs = search needs
-
-comparison-requires : tie.Need-comparison-requires
-comparison-requires c κs = search needs
-
-conjunction-requires : tie.Need-conjunction-requires
-conjunction-requires c κs = search needs
-
-disjunction-requires : tie.Need-disjunction-requires
-disjunction-requires c κs = search needs
-
-negated-requires : tie.Need-negated-requires
-negated-requires c κs = search needs
+judge-by-kind-requires : tie.Need-judge-by-kind-requires
+judge-by-kind-requires c κs =
+    let at-small = c .before .before in
+    let at-start = at-small .before .before .before in
+    (kids-small _ (at-small .small .ensures) (c .before .small2 .ensures) (c .if1 .taken), at-start .pre)
 
 bad-requires : tie.Need-bad-requires
 bad-requires c κs = search needs
 
-bad-requires-2 : tie.Need-bad-requires-2
-bad-requires-2 c κs = search needs
-
-bad-requires-3 : tie.Need-bad-requires-3
-bad-requires-3 c κs = search needs
-
 returns : tie.Need-returns
-unfolding rowOf
-returns c = rw (c .before .match .keys1, c .sums .ensures)
+returns c =
+    let at-small2 = c .before .before in
+    let at-small = at-small2 .before in
+    c .judge-by-kind .ensures ∙ parent-judged _ (at-small .small .ensures) (at-small2 .small2 .ensures) _ (c .before .if1 .taken)
 
 returns-2 : tie.Need-returns-2
-unfolding rowOf
-returns-2 c = rw (c .before .match .keys2, c .differences .ensures)
-
-returns-3 : tie.Need-returns-3
-unfolding rowOf
-returns-3 c = rw (c .before .match .keys3, c .product .ensures)
-
-returns-4 : tie.Need-returns-4
-unfolding rowOf
-returns-4 c = rw (c .before .match .keys4, c .comparison .ensures)
-
-returns-5 : tie.Need-returns-5
-returns-5 c = absurd (parent-other _ _ (c .before .before .pre .1) .1 (c .before .match .keys5))
-
-returns-6 : tie.Need-returns-6
-unfolding rowOf
-returns-6 c = rw (c .before .match .keys6, c .conjunction .ensures)
-
-returns-7 : tie.Need-returns-7
-unfolding rowOf
-returns-7 c = rw (c .before .match .keys7, c .disjunction .ensures)
-
-returns-8 : tie.Need-returns-8
-unfolding rowOf
-returns-8 c = rw (c .before .match .keys8, c .negated .ensures)
-
-returns-9 : tie.Need-returns-9
-returns-9 c =
-    let at-match = c .before .before in
-    let at-start = at-match .before in
-    let x = at-match .match .rest in
-    absurd (parent-rest _ _ (x .0 .0 .0 .0 .0 .0 .0 .1) (x .0 .0 .0 .0 .0 .0 .1) (x .0 .0 .0 .0 .0 .1) (x .0 .0 .0 .0 .1) (x .0 .0 .1) (x .0 .1)
-    (x .1) (at-start .pre .1))
-
-returns-10 : tie.Need-returns-10
-returns-10 c =
-    let at-match = c .before .before in
-    let at-start = at-match .before in
-    let x = at-match .match .rest in
-    absurd (parent-rest _ _ (x .0 .0 .0 .0 .0 .0 .0 .1) (x .0 .0 .0 .0 .0 .0 .1) (x .0 .0 .0 .0 .0 .1) (x .0 .0 .0 .0 .1) (x .0 .0 .1) (x .0 .1)
-    (x .1) (at-start .pre .1))
+returns-2 c =
+    let at-small2 = c .before .before in
+    let at-small = at-small2 .before in
+    c .bad .ensures ∙ parent-bad _ (at-small .small .ensures) (at-small2 .small2 .ensures) _ (c .before .if1 .left)
 
 pub judge-parent-spec : {M : Type 1} → statement M
-judge-parent-spec = tie.close (tie.spec
-    sums-requires
-    differences-requires
-    product-requires
-    comparison-requires
-    bad-requires
-    conjunction-requires
-    disjunction-requires
-    negated-requires
-    bad-requires-2
-    bad-requires-3
-    returns
-    returns-2
-    returns-3
-    returns-4
-    returns-5
-    returns-6
-    returns-7
-    returns-8
-    returns-9
-    returns-10)
+judge-parent-spec = tie.close (tie.spec small-requires small-requires-2 judge-by-kind-requires bad-requires returns returns-2)

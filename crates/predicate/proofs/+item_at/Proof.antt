@@ -1,7 +1,7 @@
 -- `predicate::item_at` meets its contract, and ends: the node number falls. Assumes nothing.
 use Rattle.tree.proofs.TreeLaws.{held, first-before, second-before}
-use Rattle.predicate.proofs.BaseLaws.{ranged, base-of, lower-range}
-use Rattle.predicate.proofs.RangeLaws.{none-small, item-small, range-none, range-one, range-two}
+use Rattle.predicate.proofs.BaseLaws.{ranged, lower-range}
+use Rattle.predicate.proofs.RangeLaws.{range-none, range-one, range-two}
 use native.Mathlib.Omega.{arith}
 use borrow.Author.Needs.{needs}
 use Prim.Native.Nat.{ℕ, _<_}
@@ -51,13 +51,9 @@ item-at-range-at-requires : (t : ℕ) → item-at-lts.Need-range-at-requires (ca
 item-at-range-at-requires t c κs =
     let at-span = c .before .before in
     let at-kids-at = at-span .before in
-    let at-start = at-kids-at .before .before in (
-      (base-of (at-start .pre .1), held (ranged (at-start .pre .1))),
-      (
-        (rw (at-span .span .ensures) none-small, rw (at-span .span .ensures) none-small),
-        rw (at-span .span .ensures) (range-none (at-start .pre .1) _ (at-kids-at .kids-at .ensures) (c .if1 .taken) .takes),
-      ),
-    )
+    let at-start = at-kids-at .before .before in
+    let m = range-none (at-start .pre .1) _ (at-kids-at .kids-at .ensures) (c .if1 .taken) in
+    ((m .based, held (ranged (at-start .pre .1))), rw (at-span .span .ensures) (m .able))
 
 item-at-returns : (t : ℕ) → item-at-lts.Need-returns (calls t) (item-at-at t) item-at.Post
 item-at-returns t c =
@@ -79,18 +75,9 @@ item-at-range-at-requires-2 t c κs =
     let at-if1 = at-item-at .before in
     let at-span = at-if1 .before .before in
     let at-kids-at = at-span .before in
-    let at-start = at-kids-at .before .before in (
-      (base-of (at-start .pre .1), held (ranged (at-start .pre .1))),
-      (
-        (
-          rw (at-item-at .item-at .ensures) (item-small
-              (lower-range (at-start .pre .1) (first-before (ranged (at-start .pre .1)) _ (at-kids-at .kids-at .ensures) (at-if1 .if1 .left)))),
-          rw (at-span .span .ensures) none-small,
-        ),
-        rw (at-span .span .ensures)
-            (range-one (at-start .pre .1) _ (at-kids-at .kids-at .ensures) (c .if2 .taken) (at-item-at .item-at .ensures) .takes),
-      ),
-    )
+    let at-start = at-kids-at .before .before in
+    let m = range-one (at-start .pre .1) _ (at-kids-at .kids-at .ensures) (c .if2 .taken) (at-item-at .item-at .ensures) in
+    ((m .based, held (ranged (at-start .pre .1))), rw (at-span .span .ensures) (m .able))
 
 item-at-returns-2 : (t : ℕ) → item-at-lts.Need-returns-2 (calls t) (item-at-at t) item-at.Post
 item-at-returns-2 t c =
@@ -114,19 +101,10 @@ item-at-range-at-requires-3 t c κs =
     let at-item-at = c .before .before .before in
     let at-if1 = at-item-at .before in
     let at-kids-at = at-if1 .before .before .before in
-    let at-start = at-kids-at .before .before in (
-      (base-of (at-start .pre .1), held (ranged (at-start .pre .1))),
-      (
-        (
-          rw (at-item-at .item-at .ensures) (item-small
-              (lower-range (at-start .pre .1) (first-before (ranged (at-start .pre .1)) _ (at-kids-at .kids-at .ensures) (at-if1 .if1 .left)))),
-          rw (c .item-at2 .ensures) (item-small (lower-range (at-start .pre .1)
-              (second-before (ranged (at-start .pre .1)) _ (at-kids-at .kids-at .ensures) (at-if1 .if1 .left) (c .before .if2 .left)))),
-        ),
-        range-two (at-start .pre .1) _ (at-kids-at .kids-at .ensures) (at-if1 .if1 .left) (c .before .if2 .left) (at-item-at .item-at .ensures)
-            (c .item-at2 .ensures) .takes,
-      ),
-    )
+    let at-start = at-kids-at .before .before in
+    let m = range-two (at-start .pre .1) _ (at-kids-at .kids-at .ensures) (at-if1 .if1 .left) (c .before .if2 .left) (at-item-at .item-at .ensures)
+    (c .item-at2 .ensures) in
+    ((m .based, held (ranged (at-start .pre .1))), m .able)
 
 item-at-returns-3 : (t : ℕ) → item-at-lts.Need-returns-3 (calls t) (item-at-at t) item-at.Post
 item-at-returns-3 t c =

@@ -1,17 +1,27 @@
--- `predicate::is_true` meets its contract. Assumes nothing.
+-- `predicate::is_true` meets its contract: a Bool is no duration. Assumes nothing.
+use mathlib.Core.Path.{_∙_}
 use Rattle.signed.proofs.Fit.{back-of}
+use Rattle.predicate.proofs.BaseLaws.{evaluable-at}
+use Rattle.predicate.proofs.EvaluationLaws.{true-seconds}
 use borrow.Author.Needs.{needs}
 use Rattle.predicate.proofs.is_true.Statement.{statement}
 use Rattle.predicate.proofs.is_true.Tie as tie
 
-value-requires : tie.Need-value-requires
-value-requires c κs = search needs
+evaluate-requires : tie.Need-evaluate-requires
+evaluate-requires c κs = evaluable-at (c .pre)
 
 same-requires : tie.Need-same-requires
 same-requires c κs = search needs
 
 returns : tie.Need-returns
-returns c = rw (c .same .ensures, back-of (c .before .value .result) (c .before .value .ok), c .before .value .ensures)
+returns c =
+    let at-start = c .before .before in
+    rw (
+      c .same .ensures,
+      back-of (c .before .evaluate .result) (c .before .evaluate .ok),
+      c .before .evaluate .ensures,
+      ← (at-start .pre .over .accepted .header),
+    ) (true-seconds (at-start .pre))
 
 pub is-true-spec : {M : Type 1} → statement M
-is-true-spec = tie.close (tie.spec value-requires same-requires returns)
+is-true-spec = tie.close (tie.spec evaluate-requires same-requires returns)

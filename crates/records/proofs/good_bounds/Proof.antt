@@ -7,14 +7,8 @@ use borrow.Author.Needs.{needs}
 use Rattle.records.proofs.good_bounds.Statement.{statement}
 use Rattle.records.proofs.good_bounds.Tie as tie
 
-bounded-requires : tie.Need-bounded-requires
-bounded-requires c κs = search needs
-
-at-most-requires : tie.Need-at-most-requires
-at-most-requires c κs = search needs
-
-bounded-requires-2 : tie.Need-bounded-requires-2
-bounded-requires-2 c κs = search needs
+in-order-requires : tie.Need-in-order-requires
+in-order-requires c κs = search needs
 
 same-requires : tie.Need-same-requires
 same-requires c κs = search needs
@@ -29,46 +23,48 @@ returns : tie.Need-returns
 unfolding factTypeOf
 returns c =
     let at-same = c .before .before in
-    let at-start = at-same .before .before .before .before in
+    let at-start = at-same .before .before in
     rw (c .before .match .keys1, c .same2 .ensures, at-same .same .ensures, back (at-start .fits .min), back (at-start .fits .max))
 
 returns-2 : tie.Need-returns-2
 unfolding factTypeOf
 returns-2 c =
-    let at-bounded2 = c .before .before in
-    let at-at-most = at-bounded2 .before in
-    let at-bounded = at-at-most .before in
-    let at-start = at-bounded .before in
-    rw (
-      c .match .keys2,
-      at-bounded2 .bounded2 .ensures,
-      at-at-most .at-most .ensures,
-      at-bounded .bounded .ensures,
-      back (at-start .fits .min),
-      back (at-start .fits .max),
-    )
+    let at-in-order = c .before .before in
+    rw (c .match .keys2, at-in-order .in-order .ensures, back (at-in-order .before .fits .min), back (at-in-order .before .fits .max))
 
 returns-3 : tie.Need-returns-3
 unfolding factTypeOf
 returns-3 c =
     let at-same = c .before .before in
-    let at-start = at-same .before .before .before .before in
+    let at-start = at-same .before .before in
     rw (c .before .match .keys3, c .within .ensures, at-same .same .ensures, back (at-start .fits .min), back (at-start .fits .max))
 
 returns-4 : tie.Need-returns-4
-returns-4 c = rw (type-past _ (past 3 _ (c .match .rest)))
+unfolding factTypeOf
+returns-4 c =
+    let at-in-order = c .before .before in
+    rw (c .match .keys4, at-in-order .in-order .ensures, back (at-in-order .before .fits .min), back (at-in-order .before .fits .max))
+
+returns-5 : tie.Need-returns-5
+unfolding factTypeOf
+returns-5 c =
+    let at-in-order = c .before .before in
+    rw (c .match .keys5, at-in-order .in-order .ensures, back (at-in-order .before .fits .min), back (at-in-order .before .fits .max))
+
+returns-6 : tie.Need-returns-6
+returns-6 c = rw (type-past _ (past 5 _ (c .match .rest)))
 
 pub good-bounds-spec : {M : Type 1} → statement M
 good-bounds-spec =
     tie.close
     (tie.spec
-    bounded-requires
-    at-most-requires
-    bounded-requires-2
+    in-order-requires
     same-requires
     same-requires-2
     within-requires
     returns
     returns-2
     returns-3
-    returns-4)
+    returns-4
+    returns-5
+    returns-6)

@@ -19,7 +19,15 @@ unfolding factTypeOf
 returns-3 c = rw (c .match .keys3)
 
 returns-4 : tie.Need-returns-4
-returns-4 c = rw (type-past _ (past 3 _ (c .match .rest)))
+unfolding factTypeOf
+returns-4 c = rw (c .match .keys4)
+
+returns-5 : tie.Need-returns-5
+unfolding factTypeOf
+returns-5 c = rw (c .match .keys5)
+
+returns-6 : tie.Need-returns-6
+returns-6 c = rw (type-past _ (past 5 _ (c .match .rest)))
 
 pub good-set-spec : {M : Type 1} → statement M
-good-set-spec = tie.close (tie.spec returns returns-2 returns-3 returns-4)
+good-set-spec = tie.close (tie.spec returns returns-2 returns-3 returns-4 returns-5 returns-6)

@@ -1,5 +1,5 @@
 -- `sheet_nodes::judge_joint` meets its contract. Assumes nothing.
-use Rattle.sheet_nodes.proofs.Scan.{fact-given}
+use Rattle.sheet_nodes.proofs.Scan.{parent-given}
 use Rattle.node.proofs.OneKind.{parent-other}
 use borrow.Author.Needs.{needs}
 use Rattle.sheet_nodes.proofs.judge_joint.Statement.{statement}
@@ -14,24 +14,45 @@ kid-item-requires-2 c κs = search needs
 span-requires : tie.Need-span-requires
 span-requires c κs = search needs
 
+align-requires : tie.Need-align-requires
+align-requires c κs =
+    let at-kid-item = c .before .before .before in
+    let at-start = at-kid-item .before .before .before in
+    rw (at-kid-item .kid-item .ensures) (at-start .pre .0 .first)
+
+align-requires-2 : tie.Need-align-requires-2
+align-requires-2 c κs =
+    let at-kid-item2 = c .before .before in
+    let at-start = at-kid-item2 .before .before .before .before .before in
+    rw (at-kid-item2 .kid-item2 .ensures) (at-start .pre .0 .second)
+
 judge-parent-requires : tie.Need-judge-parent-requires
 judge-parent-requires c κs =
-    let at-kid-item = c .before .before .before in
-    let at-start = at-kid-item .before .before .before in (
-      record {
-        x = rw (at-kid-item .kid-item .ensures) (at-start .pre .0 .ready .x);
-        y = rw (c .before .kid-item2 .ensures) (at-start .pre .0 .ready .y);
-      },
-      at-start .pre .1,
-    )
+    let at-start = c .before .before .before .before .before .before .before .before in
+    at-start .pre .1
 
 returns : tie.Need-returns
 returns c =
-    let at-kid-item2 = c .before .before in
+    let at-align = c .before .before in
+    let at-kid-item2 = at-align .before .before in
     let at-kid-item = at-kid-item2 .before .before in
     let at-start = at-kid-item .before .before .before in
-    rw (c .judge-parent .ensures, at-kid-item2 .kid-item2 .ensures, at-kid-item .kid-item .ensures)
-    (fact-given _ _ _ (λ e. absurd (parent-other _ _ (at-start .pre .1) .0 e)))
+    rw (
+      c .judge-parent .ensures,
+      c .before .align2 .ensures,
+      at-align .align .ensures,
+      at-kid-item2 .kid-item2 .ensures,
+      at-kid-item .kid-item .ensures,
+    ) (parent-given _ _ _ (λ e. absurd (parent-other _ _ (at-start .pre .1) .0 e)))
 
 pub judge-joint-spec : {M : Type 1} → statement M
-judge-joint-spec = tie.close (tie.spec kid-item-requires kid-item-requires-2 span-requires judge-parent-requires returns)
+judge-joint-spec =
+    tie.close
+    (tie.spec
+    kid-item-requires
+    kid-item-requires-2
+    span-requires
+    align-requires
+    align-requires-2
+    judge-parent-requires
+    returns)

@@ -1,8 +1,9 @@
--- `predicate::value_at` meets its contract. Assumes nothing.
+-- `predicate::joint_at` meets its contract. Assumes nothing.
+use mathlib.Core.Path.{_∙_}
 use Rattle.signed.proofs.Fit.{back, back-of}
 use borrow.Author.Needs.{needs}
-use Rattle.predicate.proofs.value_at.Statement.{statement}
-use Rattle.predicate.proofs.value_at.Tie as tie
+use Rattle.predicate.proofs.joint_at.Statement.{statement}
+use Rattle.predicate.proofs.joint_at.Tie as tie
 
 words-at-requires : tie.Need-words-at-requires
 words-at-requires c κs = search needs
@@ -10,8 +11,8 @@ words-at-requires c κs = search needs
 num-requires : tie.Need-num-requires
 num-requires c κs = search needs
 
-value-from-requires : tie.Need-value-from-requires
-value-from-requires c κs =
+joint-from-requires : tie.Need-joint-from-requires
+joint-from-requires c κs =
     let at-words-at = c .before .before in
     let at-start = at-words-at .before in
     rw (
@@ -23,19 +24,18 @@ value-from-requires c κs =
     ) (at-start .pre .1)
 
 returns : tie.Need-returns
-returns c =
+returns c base facts verdicts =
     let at-struct-told = c .before .before in
     let at-words-at = at-struct-told .before in
     let at-start = at-words-at .before in
-    rw (
-      back-of (c .value-from .result) (c .value-from .ok),
-      c .value-from .ensures,
+    back-of (c .joint-from .result) (c .joint-from .ok)
+    ∙ rw (
+      back (at-start .fits .x),
+      back (at-start .fits .y),
       c .before .num .ensures,
       back-of (at-words-at .words-at .result .w0) (at-struct-told .struct-told .given .0 .1),
       at-words-at .words-at .ensures,
-      back (at-start .fits .x),
-      back (at-start .fits .y),
-    )
+    ) at (c .joint-from .ensures) _ facts verdicts
 
-pub value-at-spec : {M : Type 1} → statement M
-value-at-spec = tie.close (tie.spec words-at-requires num-requires value-from-requires returns)
+pub joint-at-spec : {M : Type 1} → statement M
+joint-at-spec = tie.close (tie.spec words-at-requires num-requires joint-from-requires returns)
