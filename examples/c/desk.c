@@ -151,7 +151,7 @@ static void print_path(int64_t flow, fernpocket_answer answer)
 {
     static const char *const terminals[] = {"success", "failure", "escalation"};
     printf("flow %" PRId64 ", %s:", flow, terminals[answer.value]);
-    for (int64_t i = 0; i < answer.length; i++)
+    for (int64_t i = 0; i < answer.count; i++)
         printf(" %d", (int)path[i]);
     printf("\n");
 }

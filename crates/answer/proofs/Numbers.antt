@@ -13,10 +13,10 @@ use Rattle.answer.specs.declared.Status.{Status}
 use Rattle.answer.specs.declared.Status.the-variants.{Done, Refused}
 use Rattle.answer.specs.declared.Count.{Count}
 use Rattle.answer.specs.declared.Count.the-variants.{Is, Refused as NoCount}
-use Rattle.answer.specs.declared.Walk.{Walk}
-use Rattle.answer.specs.declared.Walk.the-variants.{Path as Walked, Refused as NoWalk}
+use Rattle.answer.specs.declared.Counted.{Counted}
+use Rattle.answer.specs.declared.Counted.the-variants.{Is as IsCounted, Refused as NotCounted}
 use Rattle.answer.specs.Number.{number, place, refusedAnswer}
-use Rattle.answer.specs.Answers.{statusAnswer, countAnswer, walkAnswer}
+use Rattle.answer.specs.Answers.{statusAnswer, countAnswer, countedAnswer}
 
 -- ---- the numbers of refusals
 
@@ -86,9 +86,9 @@ pub count-done : (a : Count) (n : ℕ) → countAnswer a .refusal ≡ pos 0 → 
 count-done (Is m) n e f = ap Is (ap natAbs f)
 count-done (NoCount r) n e f = absurd (number-some r e)
 
-pub walk-done : (a : Walk) → walkAnswer a .refusal ≡ pos 0 → (t : ℕ) × (n : ℕ) × (a ≡ Walked t n)
-walk-done (Walked t n) e = (t, n, refl)
-walk-done (NoWalk r) e = absurd (number-some r e)
+pub counted-done : (a : Counted) → countedAnswer a .refusal ≡ pos 0 → (v : ℕ) × (n : ℕ) × (a ≡ IsCounted v n)
+counted-done (IsCounted v n) e = (v, n, refl)
+counted-done (NotCounted r) e = absurd (number-some r e)
 
 -- ---- refusals by their numbers
 

@@ -5,8 +5,8 @@ use Rattle.answer.specs.declared.Status.{Status}
 use Rattle.answer.specs.declared.Status.the-variants.{Done, Refused}
 use Rattle.answer.specs.declared.Count.{Count}
 use Rattle.answer.specs.declared.Count.the-variants.{Is, Refused as NoCount}
-use Rattle.answer.specs.declared.Walk.{Walk}
-use Rattle.answer.specs.declared.Walk.the-variants.{Path as Walked, Refused as NoWalk}
+use Rattle.answer.specs.declared.Counted.{Counted}
+use Rattle.answer.specs.declared.Counted.the-variants.{Is as IsCounted, Refused as NotCounted}
 use Rattle.answer.specs.Number.{refusedAnswer, doneAnswer}
 
 abbrev pub statusAnswer : Status → Answer
@@ -17,6 +17,6 @@ abbrev pub countAnswer : Count → Answer
 countAnswer (Is n) = doneAnswer n 0
 countAnswer (NoCount r) = refusedAnswer r
 
-abbrev pub walkAnswer : Walk → Answer
-walkAnswer (Walked t n) = doneAnswer t n
-walkAnswer (NoWalk r) = refusedAnswer r
+abbrev pub countedAnswer : Counted → Answer
+countedAnswer (IsCounted v n) = doneAnswer v n
+countedAnswer (NotCounted r) = refusedAnswer r

@@ -5,8 +5,8 @@ use Rattle.answer.specs.declared.Status.{Status}
 use Rattle.answer.specs.declared.Status.the-variants.{Done, Refused}
 use Rattle.answer.specs.declared.Count.{Count}
 use Rattle.answer.specs.declared.Count.the-variants.{Is, Refused as NoCount}
-use Rattle.answer.specs.declared.Walk.{Walk}
-use Rattle.answer.specs.declared.Walk.the-variants.{Path as Walked, Refused as NoWalk}
+use Rattle.answer.specs.declared.Counted.{Counted}
+use Rattle.answer.specs.declared.Counted.the-variants.{Is as IsCounted, Refused as NotCounted}
 use Rattle.answer.specs.Number.{place, number}
 use lib.Dec.{lit<}
 use Rattle.answer.specs.declared.Refusal.{Refusal}
@@ -24,9 +24,9 @@ abbrev pub SmallCount : Count → Type 0
 SmallCount (Is n) = n < 2 ^ 63
 SmallCount (NoCount r) = place r < 2 ^ 63
 
-abbrev pub SmallWalk : Walk → Type 0
-SmallWalk (Walked t n) = (t < 2 ^ 63) × (n < 2 ^ 63)
-SmallWalk (NoWalk r) = place r < 2 ^ 63
+abbrev pub SmallCounted : Counted → Type 0
+SmallCounted (IsCounted v n) = (v < 2 ^ 63) × (n < 2 ^ 63)
+SmallCounted (NotCounted r) = place r < 2 ^ 63
 
 -- every number is small
 pub number-small : (r : Refusal) → number r < 2 ^ 63

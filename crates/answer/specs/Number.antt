@@ -46,8 +46,8 @@ place ManyOutcomes = 0
 
 -- a refused answer: its number and its place, the other numbers 0
 abbrev pub refusedAnswer : Refusal → Answer
-refusedAnswer r = record { refusal = pos (number r); place = pos (place r); value = pos 0; length = pos 0 }
+refusedAnswer r = record { refusal = pos (number r); place = pos (place r); value = pos 0; count = pos 0 }
 
--- the answer of a call that went through
+-- the answer of a call that went through: its value, and its count where it has one
 abbrev pub doneAnswer : ℕ → ℕ → Answer
-doneAnswer v n = record { refusal = pos 0; place = pos 0; value = pos v; length = pos n }
+doneAnswer v n = record { refusal = pos 0; place = pos 0; value = pos v; count = pos n }

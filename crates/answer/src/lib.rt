@@ -3,8 +3,8 @@ ghost use mathlib.Core.Path.{_≡_};
 ghost use lib.IntN.{pos};
 ghost use Prim.Native.Nat.{_<_, _^_};
 ghost use Rattle.answer.specs.Number.{number, place, refusedAnswer, doneAnswer};
-ghost use Rattle.answer.specs.Answers.{statusAnswer, countAnswer, walkAnswer};
-ghost use Rattle.answer.specs.Inner.{SmallStatus, SmallCount, SmallWalk};
+ghost use Rattle.answer.specs.Answers.{statusAnswer, countAnswer, countedAnswer};
+ghost use Rattle.answer.specs.Inner.{SmallStatus, SmallCount, SmallCounted};
 
 // Every refusal, by what is wrong. A case that has a place holds it.
 pub enum Refusal {
@@ -38,9 +38,9 @@ pub enum Count {
     Refused(Refusal),
 }
 
-// The answer of a call that gives a path.
-pub enum Walk {
-    Path { terminal: usize, length: usize },
+// The answer of a call that gives two numbers: S2's mask and its scans; a path's terminal and its length.
+pub enum Counted {
+    Is { value: usize, count: usize },
     Refused(Refusal),
 }
 
@@ -50,7 +50,7 @@ pub struct Answer {
     pub refusal: i64,
     pub place: i64,
     pub value: i64,
-    pub length: i64,
+    pub count: i64,
 }
 
 pub fn number(r: Refusal) -> usize
@@ -117,19 +117,19 @@ pub fn refused(r: Refusal) -> Answer
         refusal: signed(n),
         place: signed(at),
         value: 0,
-        length: 0,
+        count: 0,
     }
 }
 
-pub fn done(value: usize, length: usize) -> Answer
-    requires { ⌜ (value < 2 ^ 63) × (length < 2 ^ 63) ⌝ }
-    ensures { λ a. ⌜ a ≡ doneAnswer value length ⌝ }
+pub fn done(value: usize, count: usize) -> Answer
+    requires { ⌜ (value < 2 ^ 63) × (count < 2 ^ 63) ⌝ }
+    ensures { λ a. ⌜ a ≡ doneAnswer value count ⌝ }
 {
     Answer {
         refusal: 0,
         place: 0,
         value: signed(value),
-        length: signed(length),
+        count: signed(count),
     }
 }
 
@@ -153,12 +153,12 @@ pub fn of_count(c: Count) -> Answer
     }
 }
 
-pub fn of_walk(w: Walk) -> Answer
-    requires { ⌜ SmallWalk w ⌝ }
-    ensures { λ a. ⌜ a ≡ walkAnswer w ⌝ }
+pub fn of_counted(c: Counted) -> Answer
+    requires { ⌜ SmallCounted c ⌝ }
+    ensures { λ a. ⌜ a ≡ countedAnswer c ⌝ }
 {
-    match w {
-        Walk::Path { terminal, length } => done(terminal, length),
-        Walk::Refused(r) => refused(r),
+    match c {
+        Counted::Is { value, count } => done(value, count),
+        Counted::Refused(r) => refused(r),
     }
 }

@@ -5,11 +5,10 @@ use reports::look_up;
 use script::buffers::number;
 use script::lines;
 
-// A report that takes one number.
+// A report that takes one number and answers one.
 fn of_one(s: &[i64], call: usize, a: i64) -> Count {
     match call {
         9 => look_up(s, Report::States, a),
-        10 => look_up(s, Report::Reachable, a),
         14 => look_up(s, Report::Stratum, a),
         15 => look_up(s, Report::Outcomes, a),
         16 => look_up(s, Report::TreeSize, a),
@@ -42,6 +41,10 @@ fn taken(s: &[i64], tape: &[i64], call: usize, at: usize) -> Count {
 }
 
 pub(crate) fn report(s: &[i64], tape: &[i64], call: usize, at: usize, case: usize) {
-    lines::count(case, taken(s, tape, call, at));
+    if call == 10 {
+        lines::counted(case, reports::reachable(s, number(tape, at, 1)));
+    } else {
+        lines::count(case, taken(s, tape, call, at));
+    }
     lines::end();
 }

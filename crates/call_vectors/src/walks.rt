@@ -1,18 +1,18 @@
 // The calls on flows: each takes its buffers from the tape, and writes a line.
-use answer::Walk;
+use answer::Counted;
 use script::buffers::lend;
 use script::buffers::lend_path;
 use script::buffers::past;
 use script::lines;
 
 fn first_on(s: &[i64], flow: i64, path: &mut [u16], case: usize) {
-    lines::walk(case, flows::first(s, flow, path));
+    lines::counted(case, flows::first(s, flow, path));
     lines::path(path);
     lines::end();
 }
 
 fn next_on(s: &[i64], flow: i64, path: &mut [u16], case: usize) {
-    lines::walk(case, flows::next(s, flow, path));
+    lines::counted(case, flows::next(s, flow, path));
     lines::path(path);
     lines::end();
 }
@@ -70,25 +70,25 @@ fn mixed_path(first: usize, path: &[u16]) -> usize {
 }
 
 // A checksum with a path more: its terminal, its length and the whole buffer.
-fn mixed_walk(sum: usize, w: Walk, path: &[u16]) -> usize {
+fn mixed_walk(sum: usize, w: Counted, path: &[u16]) -> usize {
     match w {
-        Walk::Path { terminal, length } => mixed_path(mixed(mixed(sum, terminal), length), path),
-        Walk::Refused(_) => sum,
+        Counted::Is {
+            value: terminal,
+            count: length,
+        } => mixed_path(mixed(mixed(sum, terminal), length), path),
+        Counted::Refused(_) => sum,
     }
 }
 
-fn listed(w: Walk) -> bool {
+fn listed(w: Counted) -> bool {
     match w {
-        Walk::Path {
-            terminal: _,
-            length: _,
-        } => true,
-        Walk::Refused(_) => false,
+        Counted::Is { value: _, count: _ } => true,
+        Counted::Refused(_) => false,
     }
 }
 
-fn all_shown(n: usize, sum: usize, w: Walk, path: &[u16], case: usize) {
-    lines::walk(case, w);
+fn all_shown(n: usize, sum: usize, w: Counted, path: &[u16], case: usize) {
+    lines::counted(case, w);
     lines::path(path);
     lines::field(n);
     lines::field(sum);
@@ -127,7 +127,7 @@ fn run_on(
     path: &mut [u16],
     case: usize,
 ) {
-    lines::walk(
+    lines::counted(
         case,
         flows::run(s, values, given, states, flow, wanted, path),
     );

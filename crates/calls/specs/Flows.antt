@@ -10,8 +10,8 @@ use lib.Dec.{leb}
 use Rattle.signed.specs.Words.{num}
 use Rattle.answer.specs.declared.Status.{Status}
 use Rattle.answer.specs.declared.Status.the-variants.{Done}
-use Rattle.answer.specs.declared.Walk.{Walk}
-use Rattle.answer.specs.declared.Walk.the-variants.{Refused as NoWalk}
+use Rattle.answer.specs.declared.Counted.{Counted}
+use Rattle.answer.specs.declared.Counted.the-variants.{Refused as NoWalk}
 use Rattle.layout.specs.declared.Header.{Header}
 use Rattle.facts.specs.Faults.{factsFault}
 use Rattle.facts.specs.Assembled.{assembled}
@@ -48,7 +48,7 @@ abbrev pub runClimb : List ℤ → List ℤ → List ℤ → List ℤ → ℤ �
 runClimb s values given states f words room = climb (opened s) (runRungs s values given states f words room)
 
 -- "facts and verdicts are fixed at its start": a run over what the lent facts come to
-abbrev pub ranWalkOver : List ℤ → Header → List ℤ → List ℤ → List ℤ → ℕ → List ℤ → Walk
+abbrev pub ranWalkOver : List ℤ → Header → List ℤ → List ℤ → List ℤ → ℕ → List ℤ → Counted
 ranWalkOver s h values given states f words = let facts = assembled s h values given in ranWalk s h facts (verdictsOf s h facts) states f words
 
 abbrev pub ranPathOver : List ℤ → Header → List ℤ → List ℤ → List ℤ → ℕ → List ℤ → List ℕ → List ℕ
@@ -57,7 +57,7 @@ ranPathOver s h values given states f words b = let facts = assembled s h values
 abbrev pub ranStatesOver : List ℤ → Header → List ℤ → List ℤ → List ℤ → ℕ → List ℤ → List ℤ
 ranStatesOver s h values given states f words = let facts = assembled s h values given in ranStates s h facts (verdictsOf s h facts) states f words
 
-abbrev pub runAnswer : List ℤ → List ℤ → List ℤ → List ℤ → ℤ → List ℤ → List ℕ → Walk
+abbrev pub runAnswer : List ℤ → List ℤ → List ℤ → List ℤ → ℤ → List ℤ → List ℕ → Counted
 runAnswer s values given states f words b =
     by (runClimb s values given states f words (length b)) NoWalk (λ h. ranWalkOver s h values given states (num f) words)
 
@@ -78,14 +78,14 @@ abbrev pub flowClimb : List ℤ → ℤ → ℕ → Climbed
 flowClimb s f room = climb (opened s) (flowRungs s f room)
 
 -- "First puts path 0 in the buffer"
-abbrev pub firstAnswer : List ℤ → ℤ → List ℕ → Walk
+abbrev pub firstAnswer : List ℤ → ℤ → List ℕ → Counted
 firstAnswer s f b = by (flowClimb s f (length b)) NoWalk (λ h. firstWalk s h (num f))
 
 abbrev pub firstPath : List ℤ → ℤ → List ℕ → List ℕ
 firstPath s f b = left (flowClimb s f (length b)) b (λ h. firstLaid s h (num f) b)
 
 -- "next puts the path that follows the one it finds there"; 12 and 13 are among its answers
-abbrev pub nextAnswer : List ℤ → ℤ → List ℕ → Walk
+abbrev pub nextAnswer : List ℤ → ℤ → List ℕ → Counted
 nextAnswer s f b = by (flowClimb s f (length b)) NoWalk (λ h. nextWalk s h (num f) b)
 
 abbrev pub nextPath : List ℤ → ℤ → List ℕ → List ℕ

@@ -7,7 +7,7 @@ use Prim.Native.Nat.{ℕ, zero, suc, _-_, _≤_}
 use lib.IntN.{ℤ}
 use lib.ListN.{length, take}
 use Rattle.signed.specs.Words.{num}
-use Rattle.answer.specs.declared.Walk.the-variants.{Path as Walked, Refused as NoWalk}
+use Rattle.answer.specs.declared.Counted.the-variants.{Is as Walked, Refused as NoWalk}
 use Rattle.layout.specs.declared.Header.{Header}
 use Rattle.walks.specs.Paths.{stepsOf, paths, path, Among}
 use Rattle.walks.specs.Follows.{walkOf, laid}

@@ -8,7 +8,7 @@ use Prim.Native.Nat.{ℕ, _-_, _≤_, _<_, min}
 use lib.IntN.{ℤ, pos}
 use lib.ListN.{length}
 use Rattle.signed.specs.Words.{num}
-use Rattle.answer.specs.Answers.{walkAnswer}
+use Rattle.answer.specs.Answers.{countedAnswer}
 use Rattle.layout.specs.declared.Header.{Header}
 use Rattle.walks.specs.Paths.{path}
 use Rattle.walks.specs.Follows.{walkOf, laid}
@@ -29,5 +29,5 @@ publicCalls s f t (c ∷ cs) = publicCalls s f (publicCall s f (t .buffer) c) cs
 -- terminal and length
 pub record ListedNumbers (s : List ℤ) (h : Header) (f : ℤ) (b : List ℕ) (n : ℕ) (t : State) : Type 0 where
   pub holds : t .buffer ≡ laid (path s h (num f) (min n (count s h (num f) - 1))) b
-  pub refused : (walkAnswer (t .answer) .refusal ≡ pos 13) ↔ (count s h (num f) ≤ n)
-  pub answers : n < count s h (num f) → walkAnswer (t .answer) ≡ walkAnswer (walkOf s h (path s h (num f) n))
+  pub refused : (countedAnswer (t .answer) .refusal ≡ pos 13) ↔ (count s h (num f) ≤ n)
+  pub answers : n < count s h (num f) → countedAnswer (t .answer) ≡ countedAnswer (walkOf s h (path s h (num f) n))

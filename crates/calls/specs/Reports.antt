@@ -1,5 +1,5 @@
 -- 01, "Reports": what the calls for S1 to S5 and S7 answer. Each climbs the ladder first: the sheet, then 5 for a number that does not exist;
--- then it answers the number, the mask, or 1 for yes and 0 for no.
+-- then it answers the number, the mask with its scans, or 1 for yes and 0 for no.
 -- Assumes nothing.
 use mathlib.Core.Bool.{Bool, true, cond, _&&_}
 use mathlib.Core.List.{List}
@@ -10,13 +10,15 @@ use Rattle.answer.specs.declared.Status.{Status}
 use Rattle.answer.specs.declared.Status.the-variants.{Done}
 use Rattle.answer.specs.declared.Count.{Count}
 use Rattle.answer.specs.declared.Count.the-variants.{Is, Refused as NoCount}
+use Rattle.answer.specs.declared.Counted.{Counted}
+use Rattle.answer.specs.declared.Counted.the-variants.{Is as IsCounted, Refused as NotCounted}
 use Rattle.layout.specs.declared.Header.{Header}
 use Rattle.records.specs.Rules.{stratum}
 use Rattle.records.specs.Entities.{states}
 use Rattle.records.specs.Operations.{outcomes}
 use Rattle.tree.specs.Sizes.{treeSize}
 use Rattle.depth.specs.Depth.{depth}
-use Rattle.reach.specs.Reached.{reachable}
+use Rattle.reach.specs.Reached.{reachable, scans}
 use Rattle.causes.specs.Causes.{admissible, canCause}
 use Rattle.ladder.specs.declared.Climbed.{Climbed}
 use Rattle.ladder.specs.Ladder.{rungs, opened, climb, by, exists}
@@ -44,9 +46,10 @@ yesNo b = cond b 1 0
 abbrev pub statesAnswer : List ℤ → ℤ → Count
 statesAnswer s e = reported s (λ h. exists e (h .entities)) (λ h. states s h (num e))
 
--- S2: "a mask of states reached from the initial one by zero or more declared transitions"
-abbrev pub reachableAnswer : List ℤ → ℤ → Count
-reachableAnswer s e = reported s (λ h. exists e (h .entities)) (λ h. reachable s h (num e))
+-- S2: "a mask of states reached from the initial one by zero or more declared transitions"; 02, CR 5: "also returns its scans"
+abbrev pub reachableAnswer : List ℤ → ℤ → Counted
+reachableAnswer s e =
+    by (reportClimb s (λ h. exists e (h .entities))) NotCounted (λ h. IsCounted (reachable s h (num e)) (scans s h (num e)))
 
 -- S3a: "yes for (entity, state, persona, operation) if the mask has the persona, an effect starts from that state of that entity, and the
 -- precondition's range includes 1"

@@ -43,16 +43,16 @@ use Rattle.calls.specs.Flows.{stepsOr, runRungs, flowRungs}
 use Rattle.calls.specs.Lists.{publicCall, publicCalls}
 use Rattle.reach.specs.Inner.{settled, nextOpen}
 use Rattle.reach.specs.Moves.{leaves}
-use Rattle.reach.specs.Reached.{enters, round, flagged, maskBelow, reachable}
+use Rattle.reach.specs.Reached.{enters, round, flagged, maskBelow, reachable, countBelow, statesIn, scans}
 use Rattle.causes.specs.Causes.{effectPasses, someEffect, canBeTrue, admissible}
 use Rattle.calls.specs.Reports.{stateExists, reportRungs}
 use Rattle.decimal.specs.Decimal.{digitsIn, digits, sign, decimal, hasText, magnitude, value}
 use Rattle.text.specs.Calls.{before, judged as judged-text}
 use Rattle.text.specs.Lines.{all, join, line, goodRow, rows, rowsOf, textOf, joined, cut, linesOf, numbers, wordsOf, same as same-text, goodLine}
 use Rattle.path_lines.specs.Output.{refusedLine, pathLine, flowLines, flowsLines, sheetLines, textCount, wordsEntrance, entrance, written, output}
-use Rattle.cases.specs.Sheets.{whole, sixRoutes, thirdOutcome, sumWith, threeEntities, productIs, amounts, moneyProduct}
-use Rattle.cases.specs.CaseTable.{row, same, wrong, listed, ranFrom, operatedFrom, operatedOnThree, productMayBe, operatedWith, secondsMayBe, operatedOnUnits, wantedCases, blockedCases, productCases, amountCases, judged, assembledWith, cases, wrote}
+use Rattle.cases.specs.Sheets.{whole, sixRoutes, thirdOutcome, sumWith, threeEntities, productIs, amounts, moneyProduct, threeGraphs}
+use Rattle.cases.specs.CaseTable.{row, same, wrong, listed, ranFrom, operatedFrom, operatedOnThree, productMayBe, operatedWith, secondsMayBe, operatedOnUnits, wantedCases, blockedCases, productCases, amountCases, scanned, scanCases, judged, assembledWith, cases, wrote}
 
 pub none-wrong : wrong cases ≡ []
-unfolding holds somePair canHold canFail eqZ within bounded num minZ maxZ recordAt wordsAt numbersOf unused allBelow anyBelow sumBelow firstFail grown entry goodGroup goodGroups headerOf inLimits goodFrame goodHeader has allOf distinct joined-lists pick crossed factor shared converted small align multiple factTypeOf rowOf fits converts tablesOf goodIn firstBad checked goodEntity goodChange goodTransition sameChange declared goodDefault agree goodFact goodFlow goodOperationStep goodBranchStep goodStep flowOf stepOf goodRouteOf goodRoute namedByRules namedByOperations namedBySteps goodRoot itemStep itemOf treeStep treeOf namedByNodes goodChildren goodNode goodMask goodOperation operationOf goodOutcome sameSource goodEffectOf goodEffect citesLower goodRule valueTaken assembled factFault firstRefused factsFault valueStep valueOf verdictsTo verdictsOf mover newState applied allowed ofOutcome starts moves matched unblocked applicable blocking blocker wantedOf goodWanted another only choice chosen stateIn firstStray statesFault attemptAnswer attempted statesAfter attemptedStates begins headOf following laid firstWalk firstLaid answerOf bufferOf nextWalk nextLaid greatest depth firstRouteOf routesOf ends target lastOf terminal onward inTurn pathsFrom paths path started taken-listing wantedAt outcomesAt goodWord goodWords answerRoute branchRoute routeTaken statesThen begun stepped runOn ran ranWalk ranPath ranStates then unless reached by climb assembleRungs wantedExists operateRungs stepsOr runRungs flowRungs publicCall publicCalls settled nextOpen leaves enters round flagged maskBelow reachable effectPasses someEffect canBeTrue admissible stateExists reportRungs whole sixRoutes thirdOutcome sumWith threeEntities productIs amounts moneyProduct row same wrong listed ranFrom operatedFrom operatedOnThree productMayBe operatedWith secondsMayBe operatedOnUnits wantedCases blockedCases productCases amountCases judged assembledWith cases opened digitsIn digits sign decimal hasText magnitude value before judged-text all join line goodRow rows rowsOf textOf joined cut linesOf numbers wordsOf same-text goodLine refusedLine pathLine flowLines flowsLines sheetLines textCount wordsEntrance entrance written output wrote
+unfolding holds somePair canHold canFail eqZ within bounded num minZ maxZ recordAt wordsAt numbersOf unused allBelow anyBelow sumBelow firstFail grown entry goodGroup goodGroups headerOf inLimits goodFrame goodHeader has allOf distinct joined-lists pick crossed factor shared converted small align multiple factTypeOf rowOf fits converts tablesOf goodIn firstBad checked goodEntity goodChange goodTransition sameChange declared goodDefault agree goodFact goodFlow goodOperationStep goodBranchStep goodStep flowOf stepOf goodRouteOf goodRoute namedByRules namedByOperations namedBySteps goodRoot itemStep itemOf treeStep treeOf namedByNodes goodChildren goodNode goodMask goodOperation operationOf goodOutcome sameSource goodEffectOf goodEffect citesLower goodRule valueTaken assembled factFault firstRefused factsFault valueStep valueOf verdictsTo verdictsOf mover newState applied allowed ofOutcome starts moves matched unblocked applicable blocking blocker wantedOf goodWanted another only choice chosen stateIn firstStray statesFault attemptAnswer attempted statesAfter attemptedStates begins headOf following laid firstWalk firstLaid answerOf bufferOf nextWalk nextLaid greatest depth firstRouteOf routesOf ends target lastOf terminal onward inTurn pathsFrom paths path started taken-listing wantedAt outcomesAt goodWord goodWords answerRoute branchRoute routeTaken statesThen begun stepped runOn ran ranWalk ranPath ranStates then unless reached by climb assembleRungs wantedExists operateRungs stepsOr runRungs flowRungs publicCall publicCalls settled nextOpen leaves enters round flagged maskBelow reachable countBelow statesIn scans effectPasses someEffect canBeTrue admissible stateExists reportRungs whole sixRoutes thirdOutcome sumWith threeEntities productIs amounts moneyProduct threeGraphs row same wrong listed ranFrom operatedFrom operatedOnThree productMayBe operatedWith secondsMayBe operatedOnUnits wantedCases blockedCases productCases amountCases scanned scanCases judged assembledWith cases opened digitsIn digits sign decimal hasText magnitude value before judged-text all join line goodRow rows rowsOf textOf joined cut linesOf numbers wordsOf same-text goodLine refusedLine pathLine flowLines flowsLines sheetLines textCount wordsEntrance entrance written output wrote
 none-wrong = refl

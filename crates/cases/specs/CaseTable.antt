@@ -7,7 +7,7 @@ use lib.IntN.{ℤ, pos, negsuc, negℤ}
 use lib.ListN.{replicate}
 use Rattle.signed.specs.Words.{big, eqZ}
 use Rattle.answer.specs.declared.Answer.{Answer}
-use Rattle.answer.specs.Answers.{statusAnswer, countAnswer, walkAnswer}
+use Rattle.answer.specs.Answers.{statusAnswer, countAnswer, countedAnswer}
 use Rattle.records.specs.Accept.{checked}
 use Rattle.listing.specs.Lists.{Next, First}
 use Rattle.calls.specs.Evaluation.{assembleAnswer, assembleValues, operateAnswer, operateStates}
@@ -16,7 +16,7 @@ use Rattle.calls.specs.Lists.{publicCall, publicCalls}
 use Rattle.text.specs.Lines.{textOf}
 use Rattle.path_lines.specs.Output.{output}
 use Rattle.calls.specs.Reports.{reachableAnswer, admissibleAnswer, depthAnswer}
-use Rattle.cases.specs.Sheets.{whole, sixRoutes, thirdOutcome, sumWith, threeEntities, productIs, amounts, moneyProduct}
+use Rattle.cases.specs.Sheets.{whole, sixRoutes, thirdOutcome, sumWith, threeEntities, productIs, amounts, moneyProduct, threeGraphs}
 
 -- a case by its number: the row that the definitions give, and the row that the papers give
 pub record Case : Type 0 where
@@ -24,9 +24,9 @@ pub record Case : Type 0 where
   pub got : List ℤ
   pub want : List ℕ
 
--- a row: refusal, place, value and length, then the lent words and the lent path as the call left them
+-- a row: refusal, place, value and count, then the lent words and the lent path as the call left them
 unfoldable pub row : Answer → List ℤ → List ℕ → List ℤ
-row a lent path = a .refusal ∷ a .place ∷ a .value ∷ a .length ∷ lent ++ map pos path
+row a lent path = a .refusal ∷ a .place ∷ a .value ∷ a .count ∷ lent ++ map pos path
 
 unfoldable pub same : List ℤ → List ℕ → Bool
 same [] [] = true
@@ -52,7 +52,7 @@ rubbish = 9 ∷ 9 ∷ []
 unfoldable pub listed : ℕ → List ℤ
 listed n =
     let t = publicCalls whole (pos 0) (publicCall whole (pos 0) rubbish First) (replicate n Next) in
-    row (walkAnswer (t .answer)) [] (t .buffer)
+    row (countedAnswer (t .answer)) [] (t .buffer)
 
 -- a run with the fact lent as x and flagged g, from state q; step 0 is a branch, step 1 an operation that wants w
 unfoldable pub ranFrom : ℕ → ℕ → ℕ → ℤ → List ℤ
@@ -61,7 +61,7 @@ ranFrom x g q w =
     let given = pos g ∷ [] in
     let states = pos q ∷ [] in
     let wanted = negsuc 0 ∷ w ∷ [] in
-    row (walkAnswer (runAnswer whole values given states (pos 0) wanted rubbish)) (runStates whole values given states (pos 0) wanted rubbish)
+    row (countedAnswer (runAnswer whole values given states (pos 0) wanted rubbish)) (runStates whole values given states (pos 0) wanted rubbish)
     (runPath whole values given states (pos 0) wanted rubbish)
 
 -- the operation by itself, with the fact given as 1, from state q, with w wanted
@@ -115,6 +115,19 @@ wrote s = map pos (output (textOf s))
 
 -- ---- the table
 
+-- 02, CR 5, numbered 15: each entity's mask and scans, and no such entity
+unfoldable pub scanned : ℤ → List ℤ
+scanned e = row (countedAnswer (reachableAnswer threeGraphs e)) [] []
+
+unfoldable pub scanCases : List Case
+scanCases =
+    record { number = 15; got = scanned (pos 0); want = 0 ∷ 0 ∷ 6 ∷ 2 ∷ [] }
+    ∷ record { number = 15; got = scanned (pos 1); want = 0 ∷ 0 ∷ 9 ∷ 2 ∷ [] }
+    ∷ record { number = 15; got = scanned (pos 2); want = 0 ∷ 0 ∷ 1 ∷ 1 ∷ [] }
+    ∷ record { number = 15; got = scanned (pos 3); want = 5 ∷ 0 ∷ 0 ∷ 0 ∷ [] }
+    ∷ record { number = 15; got = scanned (minus 1); want = 5 ∷ 0 ∷ 0 ∷ 0 ∷ [] }
+    ∷ []
+
 -- 02, CR 4, numbered 14: what is refused at the node, types that mix and products; the limits of currencies and units; each converted range
 -- within −M..M (11,575 days are more than M seconds); S3a by all whole numbers of 1 to 2 days in seconds; a day is 24 hours, an hour 3,600 seconds
 unfoldable pub amountCases : List Case
@@ -151,7 +164,7 @@ amountCases =
     ∷ record { number = 14; got = operatedOnUnits 0 1 3 86_401 3; want = 0 ∷ 0 ∷ 0 ∷ 0 ∷ 0 ∷ [] }
     ∷ record { number = 14; got = operatedOnUnits 3 1 0 86_401 3; want = 0 ∷ 0 ∷ 0 ∷ 0 ∷ 0 ∷ [] }
     ∷ record { number = 14; got = operatedOnUnits 1 23 1 1 0; want = 0 ∷ 0 ∷ 0 ∷ 0 ∷ 0 ∷ [] }
-    ∷ []
+    ∷ scanCases
 
 -- 02, CR 3, numbered 13: "range −3..5 by −2 gives −10..6; by 0 gives 0..0". 7 × 142,857,143 is M + 1
 unfoldable pub productCases : List Case
@@ -214,7 +227,7 @@ cases =
     ∷ record { number = 2; got = ranFrom 1 1 0 (pos 0); want = 0 ∷ 0 ∷ 0 ∷ 2 ∷ 1 ∷ 0 ∷ 2 ∷ [] }
     ∷ record { number = 3; got = ranFrom 1 0 0 (negsuc 0); want = 0 ∷ 0 ∷ 1 ∷ 1 ∷ 0 ∷ 1 ∷ 0 ∷ [] }
     ∷ record { number = 4; got = ranFrom 1 1 1 (negsuc 0); want = 0 ∷ 0 ∷ 2 ∷ 2 ∷ 1 ∷ 0 ∷ 4 ∷ [] }
-    ∷ record { number = 5; got = row (countAnswer (reachableAnswer whole (pos 0))) [] []; want = 0 ∷ 0 ∷ 7 ∷ 0 ∷ [] }
+    ∷ record { number = 5; got = row (countedAnswer (reachableAnswer whole (pos 0))) [] []; want = 0 ∷ 0 ∷ 7 ∷ 3 ∷ [] }
     ∷ record { number = 6; got = row (countAnswer (depthAnswer whole (pos 0))) [] []; want = 0 ∷ 0 ∷ 2 ∷ 0 ∷ [] }
     ∷ record { number = 7; got = judged sixRoutes; want = 1 ∷ 0 ∷ 0 ∷ 0 ∷ [] }
     ∷ record { number = 7; got = wrote sixRoutes; want = 114 ∷ 101 ∷ 102 ∷ 117 ∷ 115 ∷ 101 ∷ 100 ∷ 9 ∷ 49 ∷ 9 ∷ 48 ∷ 10 ∷ [] }

@@ -15,7 +15,7 @@ use Rattle.signed.proofs.Numbers.{num-of}
 use Rattle.words.specs.declared.Words.{Words}
 use Rattle.answer.specs.declared.Refusal.{Refusal}
 use Rattle.answer.specs.Number.{number, place, doneAnswer}
-use Rattle.answer.specs.Answers.{statusAnswer, countAnswer, walkAnswer}
+use Rattle.answer.specs.Answers.{statusAnswer, countAnswer, countedAnswer}
 use Rattle.answer.proofs.Numbers.{number-range, one-refusal}
 use Rattle.layout.specs.Header.{headerOf}
 use Rattle.layout.specs.Tables.{effect}
@@ -39,7 +39,7 @@ use Rattle.operation.proofs.Movers.{moves-true}
 use Rattle.walks.specs.Paths.{paths, WholeList}
 use Rattle.listing.specs.Lists.{Call, First, nexts, count}
 use Rattle.walks.proofs.OnlyList.{paths-whole, only-list}
-use Rattle.reach.specs.Reached.{Reached}
+use Rattle.reach.specs.Reached.{Reached, statesIn}
 use Rattle.calls.specs.Evaluation.{assembleAnswer, assembleValues, verdictsAnswer, verdictsVerdicts, operateAnswer, operateStates}
 use Rattle.calls.specs.Flows.{firstAnswer, firstPath, nextAnswer, nextPath, runAnswer, runPath, runStates}
 use Rattle.calls.specs.Reports.{reachableAnswer}
@@ -49,7 +49,7 @@ use Rattle.fernpocket.specs.Before.{placeless, operateBefore, statesBefo
 use Rattle.fernpocket.specs.Promised.{Went, WasRefused, FlowReady, readTo13, RanPath, TwoApply, OneApplies, Operated, Blocked, NoneApplies, Decided, Foreseen, Pairs, RefusedAt}
 use Rattle.fernpocket.proofs.AsBefore.{before-unless-16, one-never-16}
 use Rattle.fernpocket.proofs.Covered.{covered, applied-covered, still-reached}
-use Rattle.fernpocket.proofs.InNumbers.{went-is, listable, ready-sheet, ready-flow, read-same, ran-path, operated, mask-reached}
+use Rattle.fernpocket.proofs.InNumbers.{went-is, listable, ready-sheet, ready-flow, read-same, ran-path, operated, mask-reached, mask-scans}
 use Rattle.fernpocket.proofs.InNumbers.{wanted-goes, only-goes, one-blocked, eleven, sixteen, two-sixteen}
 use Rattle.fernpocket.proofs.InNumbers.{read-kept, write-kept, assemble-kept, verdicts-kept, operate-kept}
 use Rattle.fernpocket.proofs.InNumbers.{status-accepted, types-refused, currencies-refused}
@@ -86,15 +86,15 @@ pub refused-operate : (s values given states : List ℤ) (persona operation want
 refused-operate = operate-kept
 
 pub refused-run : (s values given states : List ℤ) (flow : ℤ) (wanted : List ℤ) (path : List ℕ)
-    → WasRefused (walkAnswer (runAnswer s values given states flow wanted path))
+    → WasRefused (countedAnswer (runAnswer s values given states flow wanted path))
     → (runPath s values given states flow wanted path ≡ path) × (runStates s values given states flow wanted path ≡ states)
 refused-run s values given states flow wanted path x =
     (run-path-kept s values given states flow wanted path x, run-states-kept s values given states flow wanted path x)
 
-pub refused-first : (s : List ℤ) (flow : ℤ) (path : List ℕ) → WasRefused (walkAnswer (firstAnswer s flow path)) → firstPath s flow path ≡ path
+pub refused-first : (s : List ℤ) (flow : ℤ) (path : List ℕ) → WasRefused (countedAnswer (firstAnswer s flow path)) → firstPath s flow path ≡ path
 refused-first = first-kept
 
-pub refused-next : (s : List ℤ) (flow : ℤ) (path : List ℕ) → WasRefused (walkAnswer (nextAnswer s flow path)) → nextPath s flow path ≡ path
+pub refused-next : (s : List ℤ) (flow : ℤ) (path : List ℕ) → WasRefused (countedAnswer (nextAnswer s flow path)) → nextPath s flow path ≡ path
 refused-next = next-kept
 
 -- ---- demand 2: operations, and what the reports say of them
@@ -153,10 +153,10 @@ module _ (s values given states : List ℤ) (persona operation wanted : ℤ) whe
         record { admissible = ap countAnswer (y .0); caused = ap countAnswer (y .1) }
 
     -- A state that S2's mask has is led by an operation call to one that it has.
-    pub reached-stays : (mask : ℕ) → Went (countAnswer (reachableAnswer s (pos n))) mask
+    pub reached-stays : (mask : ℕ) → Went (countedAnswer (reachableAnswer s (pos n))) mask
         → inMask mask (present states n) ≡ true → inMask mask (present after n) ≡ true
     reached-stays mask w b =
-        let is = rw (num-of n) at (mask-reached s (pos n) mask (went-is (reachableAnswer s (pos n)) w)) in
+        let is = rw (num-of n) at (mask-reached s (pos n) mask w) in
         is (present after n) .0 (still-reached s values given states persona operation wanted n l (is (present states n) .1 b))
 
 -- No two entities are the first that blocks an outcome, so that `eleven-none` says which number the place is.
@@ -182,9 +182,14 @@ one-outcome-as-before s values given states persona operation n =
     before-unless-16 s values given states persona operation (one-never-16 s values given states persona operation n)
 
 -- S2's mask has exactly the states reached from the initial one by zero or more declared transitions.
-pub mask-is-reached : (s : List ℤ) (entity : ℤ) (mask : ℕ) → Went (countAnswer (reachableAnswer s entity)) mask
+pub mask-is-reached : (s : List ℤ) (entity : ℤ) (mask : ℕ) → Went (countedAnswer (reachableAnswer s entity)) mask
     → (q : ℕ) → Reached s (headerOf s) (num entity) q ↔ (inMask mask q ≡ true)
-mask-is-reached s entity mask w = mask-reached s entity mask (went-is (reachableAnswer s entity) w)
+mask-is-reached s entity mask w = mask-reached s entity mask w
+
+-- 02, CR 5: S2's scans, the count of its answer, are as many as the mask has states.
+pub scans-are-states : (s : List ℤ) (entity : ℤ) (mask : ℕ) → Went (countedAnswer (reachableAnswer s entity)) mask
+    → countedAnswer (reachableAnswer s entity) .count ≡ pos (statesIn mask)
+scans-are-states s entity mask w = mask-scans s entity mask w
 
 -- ---- 02, CR 4: money and durations
 
@@ -288,6 +293,6 @@ module _ {s : List ℤ} {flow : ℤ} {path : List ℕ} (u : FlowReady s flow pat
 -- Any run that is not refused, whatever its facts and states and whatever its steps want, takes the routes of one of these paths, and answers
 -- that path's terminal and length.
 pub run-takes-listed-path : (s values given states : List ℤ) (flow : ℤ) (wanted : List ℤ) (path : List ℕ)
-    → walkAnswer (runAnswer s values given states flow wanted path) .refusal ≡ pos 0
+    → countedAnswer (runAnswer s values given states flow wanted path) .refusal ≡ pos 0
     → RanPath s values given states flow wanted path
 run-takes-listed-path = ran-path

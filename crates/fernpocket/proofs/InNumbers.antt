@@ -19,11 +19,11 @@ use Rattle.answer.specs.declared.Status.{Status}
 use Rattle.answer.specs.declared.Status.the-variants.{Refused}
 use Rattle.answer.specs.declared.Count.{Count}
 use Rattle.answer.specs.declared.Count.the-variants.{Is, Refused as NoCount}
-use Rattle.answer.specs.declared.Walk.{Walk}
-use Rattle.answer.specs.declared.Walk.the-variants.{Path as Walked, Refused as NoWalk}
+use Rattle.answer.specs.declared.Counted.{Counted}
+use Rattle.answer.specs.declared.Counted.the-variants.{Is as IsCounted, Refused as NotCounted}
 use Rattle.answer.specs.Number.{number}
-use Rattle.answer.specs.Answers.{statusAnswer, countAnswer, walkAnswer}
-use Rattle.answer.proofs.Numbers.{number-some, status-done, count-done, count-eleven, count-sixteen, walk-done}
+use Rattle.answer.specs.Answers.{statusAnswer, countAnswer, countedAnswer}
+use Rattle.answer.proofs.Numbers.{number-some, status-done, count-done, count-eleven, count-sixteen, counted-done}
 use Rattle.layout.specs.declared.Header.{Header}
 use Rattle.layout.specs.Header.{headerOf}
 use Rattle.layout.specs.Tables.{effect, entityOf}
@@ -53,7 +53,7 @@ use Rattle.listing.specs.Lists.{Call, First, Next, State, nexts, count}
 use Rattle.listing.specs.Inner.{Listed}
 use Rattle.walks.proofs.AllPaths.{path-list}
 use Rattle.run.proofs.RunPaths.{run-listed}
-use Rattle.reach.specs.Reached.{Reached}
+use Rattle.reach.specs.Reached.{Reached, statesIn}
 use Rattle.ladder.specs.declared.Climbed.{Climbed}
 use Rattle.ladder.specs.declared.Climbed.the-variants.{At, Stopped}
 use Rattle.ladder.specs.Ladder.{opened, by, left, exists}
@@ -70,7 +70,7 @@ use Rattle.flows.proofs.FlowCallLaws.{runnable, going}
 use Rattle.flows.proofs.PublicListing.{public-listing, run-takes-path}
 use Rattle.text.specs.Lines.{wordsOf, textOf}
 use Rattle.text.specs.Calls.{readAnswer, readBuffer, writeAnswer, writeBuffer, filled}
-use Rattle.reports.proofs.ReportLaws.{asked, reachable-is}
+use Rattle.reports.proofs.ReportLaws.{asked, MaskIs, reachable-is}
 use Rattle.fernpocket.specs.Promised.{Went, WasRefused, FlowReady, readTo13, RanPath, After, moved, stayed, TwoApply, OneApplies, Operated, Blocked, NoneApplies, Decided, Pairs, RefusedAt}
 use Rattle.fernpocket.proofs.Covered.{under-header, Made, made, made-after, attempt-ready}
 
@@ -113,14 +113,14 @@ module _ {s : List ℤ} {f : ℤ} {b : List ℕ} (u : FlowReady s f b) where
       (subst (λ (t : State). readTo13 s f k t ≡ publicReadOff s f k t)
       (calls-more (publicCall s f b First) cs Next) (same-read k (cs ++ (Next ∷ []))))
     where
-      go : (a : Walk) → afterCalls cs .answer ≡ a → Listed s (headerOf s) (num f) b (nexts 0 (First ∷ cs)) (afterCalls cs)
+      go : (a : Counted) → afterCalls cs .answer ≡ a → Listed s (headerOf s) (num f) b (nexts 0 (First ∷ cs)) (afterCalls cs)
           → readTo13 s f k (publicCall s f (afterCalls cs .buffer) Next) ≡ publicReadOff s f k (publicCall s f (afterCalls cs .buffer) Next)
           → readTo13 s f (suc k) (afterCalls cs) ≡ publicReadOff s f (suc k) (afterCalls cs)
-      go (Walked t m) e l ih =
+      go (IsCounted t m) e l ih =
           rw (readTo13, publicReadOff, e, e) (ap (λ (z : List (List ℕ)). take m (afterCalls cs .buffer) ∷ z) ih)
-      go (NoWalk r) e l ih = rw (last (decLt (nexts 0 (First ∷ cs)) (count s (headerOf s) (num f))), readTo13, publicReadOff)
+      go (NotCounted r) e l ih = rw (last (decLt (nexts 0 (First ∷ cs)) (count s (headerOf s) (num f))), readTo13, publicReadOff)
         where
-          last : Dec (nexts 0 (First ∷ cs) < count s (headerOf s) (num f)) → afterCalls cs .answer ≡ NoWalk LastPath
+          last : Dec (nexts 0 (First ∷ cs) < count s (headerOf s) (num f)) → afterCalls cs .answer ≡ NotCounted LastPath
           last (yes d) = let z : _≡_ {A = ℕ} 0 1 = cc (sym e ∙ l .answers d) in absurd (omega arith)
           last (no d) = l .refused .1 (omega arith)
 
@@ -131,11 +131,11 @@ module _ {s : List ℤ} {f : ℤ} {b : List ℕ} (u : FlowReady s f b) where
 -- ---- runs
 
 module _ (s values given states : List ℤ) (f : ℤ) (words : List ℤ) (b : List ℕ) where
-  pub ran-path : walkAnswer (runAnswer s values given states f words b) .refusal ≡ pos 0 → RanPath s values given states f words b
+  pub ran-path : countedAnswer (runAnswer s values given states f words b) .refusal ≡ pos 0 → RanPath s values given states f words b
   ran-path e =
-      let w = walk-done (runAnswer s values given states f words b) e in
-      by-all (λ (a : Walk). a ≡ Walked (w .0) (w .1) → RanPath s values given states f words b)
-      (runClimb s values given states f words (length b)) NoWalk _
+      let w = counted-done (runAnswer s values given states f words b) e in
+      by-all (λ (a : Counted). a ≡ IsCounted (w .0) (w .1) → RanPath s values given states f words b)
+      (runClimb s values given states f words (length b)) NotCounted _
       (λ r p q. let z : _≡_ {A = ℕ} 0 1 = cc in absurd (omega arith))
       (λ h p q. took p (run-takes-path s values given states f words b (w .0) (w .1) (w .2)))
       (w .2)
@@ -152,8 +152,8 @@ module _ (s values given states : List ℤ) (f : ℤ) (words : List ℤ) (b : Li
             is = subst (PathOf s (headerOf s) (num f)) (listed .is) (whole .sound (listed .number) (listed .below));
             listed = listed;
             left = r .left;
-            value = rw header (ap (λ (a : Walk). walkAnswer a .value) (r .answers));
-            long = ap (λ (a : Walk). walkAnswer a .length) (r .answers);
+            value = rw header (ap (λ (a : Counted). countedAnswer a .value) (r .answers));
+            long = ap (λ (a : Counted). countedAnswer a .count) (r .answers);
           }
 
 -- ---- calls that are refused leave every lent buffer as it was
@@ -168,36 +168,36 @@ kept P (Stopped r) f g old work k x = refl
 module _ (s values given states : List ℤ) (f : ℤ) (words : List ℤ) (b : List ℕ) where
   -- no run is refused past the ladder
   runs : (h : Header) → runClimb s values given states f words (length b) ≡ At h
-      → WasRefused (walkAnswer (ranWalkOver s h values given states (num f) words)) → ⊥
+      → WasRefused (countedAnswer (ranWalkOver s h values given states (num f) words)) → ⊥
   runs h e x =
-      x (ap (λ (a : Walk). walkAnswer a .refusal) (run-listed (runnable (going s values given states f words b refl e) refl refl) words .answers))
+      x (ap (λ (a : Counted). countedAnswer a .refusal) (run-listed (runnable (going s values given states f words b refl e) refl refl) words .answers))
 
-  module _ (x : WasRefused (walkAnswer (runAnswer s values given states f words b))) where
+  module _ (x : WasRefused (countedAnswer (runAnswer s values given states f words b))) where
     pub run-path-kept : runPath s values given states f words b ≡ b
     run-path-kept =
-        kept (λ (a : Walk). WasRefused (walkAnswer a)) (runClimb s values given states f words (length b)) NoWalk _ b _
+        kept (λ (a : Counted). WasRefused (countedAnswer a)) (runClimb s values given states f words (length b)) NotCounted _ b _
         (λ h e y. absurd (runs h e y)) x
 
     pub run-states-kept : runStates s values given states f words b ≡ states
     run-states-kept =
-        kept (λ (a : Walk). WasRefused (walkAnswer a)) (runClimb s values given states f words (length b)) NoWalk _ states _
+        kept (λ (a : Counted). WasRefused (countedAnswer a)) (runClimb s values given states f words (length b)) NotCounted _ states _
         (λ h e y. absurd (runs h e y)) x
 
 module _ (s : List ℤ) (f : ℤ) (b : List ℕ) where
-  pub first-kept : WasRefused (walkAnswer (firstAnswer s f b)) → firstPath s f b ≡ b
+  pub first-kept : WasRefused (countedAnswer (firstAnswer s f b)) → firstPath s f b ≡ b
   unfolding firstWalk
-  first-kept x = kept (λ (a : Walk). WasRefused (walkAnswer a)) (flowClimb s f (length b)) NoWalk _ b _ (λ h e y. absurd (y refl)) x
+  first-kept x = kept (λ (a : Counted). WasRefused (countedAnswer a)) (flowClimb s f (length b)) NotCounted _ b _ (λ h e y. absurd (y refl)) x
 
-  following-kept : (h : Header) (t : Following) → WasRefused (walkAnswer (answerOf s h t)) → bufferOf t b ≡ b
+  following-kept : (h : Header) (t : Following) → WasRefused (countedAnswer (answerOf s h t)) → bufferOf t b ≡ b
   unfolding answerOf bufferOf
   following-kept h Absent x = refl
   following-kept h Final x = refl
   following-kept h (Then p) x = absurd (x refl)
 
-  pub next-kept : WasRefused (walkAnswer (nextAnswer s f b)) → nextPath s f b ≡ b
+  pub next-kept : WasRefused (countedAnswer (nextAnswer s f b)) → nextPath s f b ≡ b
   unfolding nextWalk nextLaid
   next-kept x =
-      kept (λ (a : Walk). WasRefused (walkAnswer a)) (flowClimb s f (length b)) NoWalk _ b _
+      kept (λ (a : Counted). WasRefused (countedAnswer a)) (flowClimb s f (length b)) NotCounted _ b _
       (λ h e y. following-kept h (following (paths s h (num f)) b) y) x
 
 filled-kept : {Y : Type 0} (c : Count) (result lent : List Y) → WasRefused (countAnswer c) → filled c result lent ≡ lent
@@ -417,18 +417,27 @@ module _ (s : List ℤ) (e : ℤ) where
   abbrev named : Header → Bool
   named h = exists e (h .entities)
 
-  pub mask-reached : (m : ℕ) → reachableAnswer s e ≡ Is m → (q : ℕ) → Reached s (headerOf s) (num e) q ↔ (inMask m q ≡ true)
-  mask-reached m a q =
-      by-all (λ (c : Count). c ≡ Is m → Reached s (headerOf s) (num e) q ↔ (inMask m q ≡ true)) (reportClimb s named) NoCount _
-      (λ r p d. let z : _≡_ {A = ℕ} 0 1 = cc in absurd (omega arith))
-      (λ h p d. is (under-header s (reportRungs named) p))
-      a
+  -- what S2 answers where it goes through
+  pub mask-found : (m : ℕ) → Went (countedAnswer (reachableAnswer s e)) m
+      → (reachableAnswer s e ≡ IsCounted m (statesIn m)) × ((q : ℕ) → Reached s (headerOf s) (num e) q ↔ (inMask m q ≡ true))
+  mask-found m w =
+      let d = counted-done (reachableAnswer s e) (w .refusal) in
+      let r =
+      by-all (λ (c : Counted). c ≡ IsCounted (d .0) (d .1) → MaskIs s (headerOf s) (num e) (reachableAnswer s e)) (reportClimb s named) NotCounted _
+      (λ r p x. let z : _≡_ {A = ℕ} 0 1 = cc in absurd (omega arith))
+      (λ h p x. is (under-header s (reportRungs named) p))
+      (d .2) in
+      let y : r .mask ≡ m = ap natAbs (sym (ap (λ (c : Counted). countedAnswer c .value) (r .is)) ∙ w .value) in
+      (rw y at (r .is), λ q. rw y at (r .each q))
     where
-      is : reportClimb s named ≡ At (headerOf s) → Reached s (headerOf s) (num e) q ↔ (inMask m q ≡ true)
-      is p =
-          let r = reachable-is s e (climbed-at (opened s) (reportRungs named) refl p .sheet) (asked s named refl p .exist) in
-          let y : r .mask ≡ m = cc (sym (r .is) ∙ a) in
-          rw y at (r .each q)
+      is : reportClimb s named ≡ At (headerOf s) → MaskIs s (headerOf s) (num e) (reachableAnswer s e)
+      is p = reachable-is s e (climbed-at (opened s) (reportRungs named) refl p .sheet) (asked s named refl p .exist)
+
+  pub mask-reached : (m : ℕ) → Went (countedAnswer (reachableAnswer s e)) m → (q : ℕ) → Reached s (headerOf s) (num e) q ↔ (inMask m q ≡ true)
+  mask-reached m w = mask-found m w .1
+
+  pub mask-scans : (m : ℕ) → Went (countedAnswer (reachableAnswer s e)) m → countedAnswer (reachableAnswer s e) .count ≡ pos (statesIn m)
+  mask-scans m w = ap (λ (c : Counted). countedAnswer c .count) (mask-found m w .0)
 
 -- ---- money and durations
 

@@ -29,7 +29,7 @@ use Rattle.ladder.specs.Ladder.{rungs, opened, climb, by, left, exists, matches
 
 -- an answer with 01's place for 11
 unfoldable pub placeless : Answer → Answer
-placeless a = record { refusal = a .refusal; place = cond (eqZ (a .refusal) (pos 11)) (pos 0) (a .place); value = a .value; length = a .length }
+placeless a = record { refusal = a .refusal; place = cond (eqZ (a .refusal) (pos 11)) (pos 0) (a .place); value = a .value; count = a .count }
 
 -- the first applicable outcome of n, or n where none is
 unfoldable pub firstApplicable : (ℕ → Bool) → ℕ → ℕ

@@ -1,4 +1,4 @@
--- What the headline theorems (proofs/Headlines.antt) say, in 01's numbers. An answer here is `statusAnswer`, `countAnswer` or `walkAnswer` of
+-- What the headline theorems (proofs/Headlines.antt) say, in 01's numbers. An answer here is `statusAnswer`, `countAnswer` or `countedAnswer` of
 -- a definition that the contract of an export cites, and a lent buffer is the definition that the contract gives for it.
 -- Assumes nothing.
 use mathlib.Core.Path.{_≡_}
@@ -11,7 +11,7 @@ use lib.ListN.{length, take, getD}
 use Rattle.signed.specs.Words.{num, eqZ}
 use Rattle.answer.specs.declared.Answer.{Answer}
 use Rattle.answer.specs.Number.{doneAnswer}
-use Rattle.answer.specs.Answers.{statusAnswer, countAnswer, walkAnswer}
+use Rattle.answer.specs.Answers.{statusAnswer, countAnswer, countedAnswer}
 use Rattle.layout.specs.declared.Header.{Header}
 use Rattle.layout.specs.Header.{headerOf, goodHeader}
 use Rattle.layout.specs.Groups.{goodGroups}
@@ -54,24 +54,24 @@ pub record FlowReady (s : List ℤ) (f : ℤ) (b : List ℕ) : Type 0 where
   pub room : stepsOf s (headerOf s) (num f) ≤ length b
 
 -- "a first and then nexts until 13": the paths read off the buffer after a call and after each next that follows it, up to the answer with
--- refusal 13, k calls at most. The answer's length says how many of the buffer's entries are the path
+-- refusal 13, k calls at most. The answer's count says how many of the buffer's entries are the path
 unfoldable pub readTo13 : List ℤ → ℤ → ℕ → State → List (List ℕ)
 readTo13 s f zero t = []
 readTo13 s f (suc k) t =
-    elim (eqZ (walkAnswer (t .answer) .refusal) (pos 13)) [
+    elim (eqZ (countedAnswer (t .answer) .refusal) (pos 13)) [
       | true ↦ []
-      | false ↦ take (natAbs (walkAnswer (t .answer) .length)) (t .buffer) ∷ readTo13 s f k (publicCall s f (t .buffer) Next)
+      | false ↦ take (natAbs (countedAnswer (t .answer) .count)) (t .buffer) ∷ readTo13 s f k (publicCall s f (t .buffer) Next)
     ]
 
 -- a run took the routes of one of the flow's listed paths, which stands in the buffer with 0 past it; the value answered is its terminal, and
--- the length its length
+-- the count its length
 pub record RanPath (s values given states : List ℤ) (f : ℤ) (words : List ℤ) (b : List ℕ) : Type 0 where
   pub path : List ℕ
   pub is : PathOf s (headerOf s) (num f) path
   pub listed : Among (paths s (headerOf s) (num f)) path
   pub left : runPath s values given states f words b ≡ laid path b
-  pub value : walkAnswer (runAnswer s values given states f words b) .value ≡ pos (terminal s (headerOf s) path)
-  pub long : walkAnswer (runAnswer s values given states f words b) .length ≡ pos (length path)
+  pub value : countedAnswer (runAnswer s values given states f words b) .value ≡ pos (terminal s (headerOf s) path)
+  pub long : countedAnswer (runAnswer s values given states f words b) .count ≡ pos (length path)
 
 -- ---- operations
 

@@ -1,7 +1,7 @@
 // The public calls, as C links them: include/fernpocket.h says what each answers.
 ghost use mathlib.Core.Path.{_≡_};
 ghost use lib.ListN.{length};
-ghost use Rattle.answer.specs.Answers.{statusAnswer, countAnswer, walkAnswer};
+ghost use Rattle.answer.specs.Answers.{statusAnswer, countAnswer, countedAnswer};
 ghost use Rattle.records.specs.Accept.{checked};
 ghost use Rattle.calls.specs.Evaluation.{assembleAnswer, assembleValues, verdictsAnswer, verdictsVerdicts, operateAnswer, operateStates};
 ghost use Rattle.calls.specs.Flows.{firstAnswer, firstPath, nextAnswer, nextPath, runAnswer, runPath, runStates};
@@ -9,8 +9,8 @@ ghost use Rattle.calls.specs.Reports.{statesAnswer, reachableAnswer, admissible
 ghost use Rattle.text.specs.Calls.{readAnswer, readBuffer, writeAnswer, writeBuffer};
 use answer::Answer;
 use answer::of_count;
+use answer::of_counted;
 use answer::of_status;
-use answer::of_walk;
 use reports::Report;
 use reports::look_up;
 
@@ -92,29 +92,29 @@ pub extern "C" fn fernpocket_run(
     wanted: &[i64],
     path: &mut [u16],
 ) -> Answer
-    ensures { λ a. ⌜ a ≡ walkAnswer (runAnswer (now (sheet .entry)) (now (values .entry)) (now (given .entry)) (now (states .entry)) flow (now (wanted .entry)) (now (path .entry))) ⌝ }
+    ensures { λ a. ⌜ a ≡ countedAnswer (runAnswer (now (sheet .entry)) (now (values .entry)) (now (given .entry)) (now (states .entry)) flow (now (wanted .entry)) (now (path .entry))) ⌝ }
     ensures { λ _. ⌜ now (path .exit) ≡ runPath (now (sheet .entry)) (now (values .entry)) (now (given .entry)) (now (states .entry)) flow (now (wanted .entry)) (now (path .entry)) ⌝ }
     ensures { λ _. ⌜ now (states .exit) ≡ runStates (now (sheet .entry)) (now (values .entry)) (now (given .entry)) (now (states .entry)) flow (now (wanted .entry)) (now (path .entry)) ⌝ }
 {
-    of_walk(flows::run(sheet, values, given, states, flow, wanted, path))
+    of_counted(flows::run(sheet, values, given, states, flow, wanted, path))
 }
 
 // S6: path 0 of a flow.
 #[no_mangle]
 pub extern "C" fn fernpocket_first(sheet: &[i64], flow: i64, path: &mut [u16]) -> Answer
-    ensures { λ a. ⌜ a ≡ walkAnswer (firstAnswer (now (sheet .entry)) flow (now (path .entry))) ⌝ }
+    ensures { λ a. ⌜ a ≡ countedAnswer (firstAnswer (now (sheet .entry)) flow (now (path .entry))) ⌝ }
     ensures { λ _. ⌜ now (path .exit) ≡ firstPath (now (sheet .entry)) flow (now (path .entry)) ⌝ }
 {
-    of_walk(flows::first(sheet, flow, path))
+    of_counted(flows::first(sheet, flow, path))
 }
 
 // S6: the path of a flow that follows the one at the buffer's head.
 #[no_mangle]
 pub extern "C" fn fernpocket_next(sheet: &[i64], flow: i64, path: &mut [u16]) -> Answer
-    ensures { λ a. ⌜ a ≡ walkAnswer (nextAnswer (now (sheet .entry)) flow (now (path .entry))) ⌝ }
+    ensures { λ a. ⌜ a ≡ countedAnswer (nextAnswer (now (sheet .entry)) flow (now (path .entry))) ⌝ }
     ensures { λ _. ⌜ now (path .exit) ≡ nextPath (now (sheet .entry)) flow (now (path .entry)) ⌝ }
 {
-    of_walk(flows::next(sheet, flow, path))
+    of_counted(flows::next(sheet, flow, path))
 }
 
 // S1: the number of an entity's states.
@@ -125,12 +125,12 @@ pub extern "C" fn fernpocket_states(sheet: &[i64], entity: i64) -> Answer
     of_count(look_up(sheet, Report::States, entity))
 }
 
-// S2: the mask of the states reached from the initial one.
+// S2: the mask of the states reached from the initial one. The count is its scans, as many as the mask has states.
 #[no_mangle]
 pub extern "C" fn fernpocket_reachable(sheet: &[i64], entity: i64) -> Answer
-    ensures { λ a. ⌜ a ≡ countAnswer (reachableAnswer (now (sheet .entry)) entity) ⌝ }
+    ensures { λ a. ⌜ a ≡ countedAnswer (reachableAnswer (now (sheet .entry)) entity) ⌝ }
 {
-    of_count(look_up(sheet, Report::Reachable, entity))
+    of_counted(reports::reachable(sheet, entity))
 }
 
 // S3a: 1 for yes, 0 for no.

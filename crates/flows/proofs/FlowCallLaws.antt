@@ -9,8 +9,8 @@ use lib.ListN.{length}
 use borrow.Author.Tests.{leb-true, ltb-true, eqb-true}
 use Rattle.tables.proofs.Bools.{and-left, and-right, tests}
 use Rattle.signed.specs.Words.{num}
-use Rattle.answer.specs.declared.Walk.the-variants.{Refused as NoWalk}
-use Rattle.answer.specs.Inner.{SmallWalk}
+use Rattle.answer.specs.declared.Counted.the-variants.{Refused as NoWalk}
+use Rattle.answer.specs.Inner.{SmallCounted}
 use Rattle.layout.specs.declared.Header.{Header}
 use Rattle.records.specs.Accepted.{Accepted}
 use Rattle.facts.specs.Assembled.{assembled}
@@ -97,21 +97,21 @@ runnable {s} {h} {values} {given} g e v =
 -- ---- answers fit a signed word
 
 module _ (s : List ℤ) (f : ℤ) (b : List ℕ) where
-  pub first-call-small : SmallWalk (firstAnswer s f b)
+  pub first-call-small : SmallCounted (firstAnswer s f b)
   unfolding flowRungs
   first-call-small =
-      call-small SmallWalk NoWalk _ (λ r p. p) s (flowRungs s f (length b)) (λ h e. rungs-small _ _ _ _ tt tt)
+      call-small SmallCounted NoWalk _ (λ r p. p) s (flowRungs s f (length b)) (λ h e. rungs-small _ _ _ _ tt tt)
       (λ h e. let k = flow-lent s f b refl e in first-small (k .sheet) (k .flow))
 
-  pub next-call-small : SmallWalk (nextAnswer s f b)
+  pub next-call-small : SmallCounted (nextAnswer s f b)
   unfolding flowRungs
   next-call-small =
-      call-small SmallWalk NoWalk _ (λ r p. p) s (flowRungs s f (length b)) (λ h e. rungs-small _ _ _ _ tt tt)
+      call-small SmallCounted NoWalk _ (λ r p. p) s (flowRungs s f (length b)) (λ h e. rungs-small _ _ _ _ tt tt)
       (λ h e. let k = flow-lent s f b refl e in next-small (k .sheet) (k .flow) b)
 
-pub run-call-small : (s values given states : List ℤ) (f : ℤ) (words : List ℤ) (b : List ℕ) → SmallWalk (runAnswer s values given states f words b)
+pub run-call-small : (s values given states : List ℤ) (f : ℤ) (words : List ℤ) (b : List ℕ) → SmallCounted (runAnswer s values given states f words b)
 unfolding runRungs
 run-call-small s values given states f words b =
-    call-small SmallWalk NoWalk _ (λ r p. p) s (runRungs s values given states f words (length b))
+    call-small SmallCounted NoWalk _ (λ r p. p) s (runRungs s values given states f words (length b))
     (λ h e. rungs-small _ _ _ _ (facts-small s values given h e) (states-small s values given states h e))
     (λ h e. run-small (runnable (going s values given states f words b refl e) refl refl) words)

@@ -9,9 +9,9 @@ use native.Mathlib.Omega.{arith}
 use native.Mathlib.Decide.{decLt}
 use borrow.Author.Tests.{ltb-true, le-leb}
 use Rattle.signed.specs.Words.{num}
-use Rattle.answer.specs.Answers.{walkAnswer}
-use Rattle.answer.specs.declared.Walk.{Walk}
-use Rattle.answer.specs.declared.Walk.the-variants.{Path as Walked, Refused as NoWalk}
+use Rattle.answer.specs.Answers.{countedAnswer}
+use Rattle.answer.specs.declared.Counted.{Counted}
+use Rattle.answer.specs.declared.Counted.the-variants.{Is as Walked, Refused as NoWalk}
 use Rattle.answer.specs.declared.Status.the-variants.{Done}
 use Rattle.layout.specs.declared.Header.{Header}
 use Rattle.facts.specs.Assembled.{assembled}
@@ -63,10 +63,10 @@ module _ {s : List ℤ} {h : Header} {f : ℤ} {b : List ℕ} (u : Listable s h 
       record {
         holds = r .holds;
         refused = (λ e. none e (decLt n (count s h (num f))), λ l. rw (r .refused .1 l));
-        answers = λ l. ap walkAnswer (r .answers l);
+        answers = λ l. ap countedAnswer (r .answers l);
       }
     where
-      none : walkAnswer (t .answer) .refusal ≡ pos 13 → Dec (n < count s h (num f)) → count s h (num f) ≤ n
+      none : countedAnswer (t .answer) .refusal ≡ pos 13 → Dec (n < count s h (num f)) → count s h (num f) ≤ n
       none e (yes l) = let z : _≡_ {A = ℤ} (pos 0) (pos 13) = rw (r .answers l) at e in absurd (omega (arith, ap natAbs z))
       none e (no l) = omega arith
 
@@ -103,7 +103,7 @@ module _ {s : List ℤ} {h : Header} {f : ℤ} {b : List ℕ} (u : Listable s h 
       (read-same k (nexts n (Next ∷ [])) (publicCall s f (t .buffer) Next) (one-listed n t r Next)
       ∙ ap (readOff s h (num f) k) (call-below (t .buffer) (held-length listable-lent n t r) Next))
     where
-      go : (a : Walk) → t .answer ≡ a
+      go : (a : Counted) → t .answer ≡ a
           → publicReadOff s f k (publicCall s f (t .buffer) Next) ≡ readOff s h (num f) k (called s h (num f) (t .buffer) Next)
           → publicReadOff s f (suc k) t ≡ readOff s h (num f) (suc k) t
       go (Walked e m) q after = rw (q, publicReadOff, readOff) (ap (λ (z : List (List ℕ)). take m (t .buffer) ∷ z) after)
@@ -124,7 +124,7 @@ pub run-takes-path : (s values given states : List ℤ) (f : ℤ) (words : List 
     → runAnswer s values given states f words b ≡ Walked t n → TookPath s values given states f words b
 unfolding ranPath
 run-takes-path s values given states f words b t n =
-    by-all (λ (a : Walk). a ≡ Walked t n → TookPath s values given states f words b) (runClimb s values given states f words (length b)) NoWalk _
+    by-all (λ (a : Counted). a ≡ Walked t n → TookPath s values given states f words b) (runClimb s values given states f words (length b)) NoWalk _
     (λ r p e. let z : _≡_ {A = ℕ} 0 1 = cc in absurd (omega arith))
     (λ h p e. took h p)
   where

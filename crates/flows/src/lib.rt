@@ -9,7 +9,7 @@ ghost use Rattle.ladder.specs.Ladder.{exists};
 ghost use Rattle.calls.specs.Flows.{stepsOr, wantedLent, flowClimb, firstAnswer, firstPath, nextAnswer, nextPath};
 ghost use Rattle.calls.specs.Flows.{ranWalkOver, ranPathOver, ranStatesOver, runClimb, runAnswer, runPath, runStates};
 ghost use Rattle.flows.specs.Going.{LentRun};
-use answer::Walk;
+use answer::Counted;
 use evaluate::settle;
 use ladder::Climbed;
 use ladder::exists;
@@ -51,23 +51,23 @@ fn climb_flow(s: &[i64], flow: i64, room: usize) -> Climbed
 }
 
 // S6: path 0 of a flow.
-pub fn first(s: &[i64], flow: i64, path: &mut [u16]) -> Walk
+pub fn first(s: &[i64], flow: i64, path: &mut [u16]) -> Counted
     ensures { λ r. ⌜ r ≡ firstAnswer (now (s .entry)) flow (now (path .entry)) ⌝ }
     ensures { λ r. ⌜ now (path .exit) ≡ firstPath (now (s .entry)) flow (now (path .entry)) ⌝ }
 {
     match climb_flow(s, flow, path.len()) {
-        Climbed::Stopped(r) => Walk::Refused(r),
+        Climbed::Stopped(r) => Counted::Refused(r),
         Climbed::At(h) => listing::first(s, h, Flow(num(flow)), path),
     }
 }
 
 // S6: the path that follows the one at the buffer's head.
-pub fn next(s: &[i64], flow: i64, path: &mut [u16]) -> Walk
+pub fn next(s: &[i64], flow: i64, path: &mut [u16]) -> Counted
     ensures { λ r. ⌜ r ≡ nextAnswer (now (s .entry)) flow (now (path .entry)) ⌝ }
     ensures { λ r. ⌜ now (path .exit) ≡ nextPath (now (s .entry)) flow (now (path .entry)) ⌝ }
 {
     match climb_flow(s, flow, path.len()) {
-        Climbed::Stopped(r) => Walk::Refused(r),
+        Climbed::Stopped(r) => Counted::Refused(r),
         Climbed::At(h) => listing::next(s, h, Flow(num(flow)), path),
     }
 }
@@ -84,7 +84,7 @@ fn go_on(
     flow: Flow,
     wanted: &[i64],
     path: &mut [u16],
-) -> Walk
+) -> Counted
     requires { ⌜ LentRun (now s) h (now values) (now given) (now states) (flow .0) (now wanted) (now path) ⌝ }
     requires { ⌜ (length (now facts) ≡ h .facts) × (length (now verdicts) ≡ h .rules) ⌝ }
     ensures { λ r. ⌜ r ≡ ranWalkOver (now (s .entry)) h (now (values .entry)) (now (given .entry)) (now (states .entry)) (flow .0) (now (wanted .entry)) ⌝ }
@@ -104,7 +104,7 @@ fn go(
     flow: Flow,
     wanted: &[i64],
     path: &mut [u16],
-) -> Walk
+) -> Counted
     requires { ⌜ LentRun (now s) h (now values) (now given) (now states) (flow .0) (now wanted) (now path) ⌝ }
     ensures { λ r. ⌜ r ≡ ranWalkOver (now (s .entry)) h (now (values .entry)) (now (given .entry)) (now (states .entry)) (flow .0) (now (wanted .entry)) ⌝ }
     ensures { λ r. ⌜ now (path .exit) ≡ ranPathOver (now (s .entry)) h (now (values .entry)) (now (given .entry)) (now (states .entry)) (flow .0) (now (wanted .entry)) (now (path .entry)) ⌝ }
@@ -180,13 +180,13 @@ pub fn run(
     flow: i64,
     wanted: &[i64],
     path: &mut [u16],
-) -> Walk
+) -> Counted
     ensures { λ r. ⌜ r ≡ runAnswer (now (s .entry)) (now (values .entry)) (now (given .entry)) (now (states .entry)) flow (now (wanted .entry)) (now (path .entry)) ⌝ }
     ensures { λ r. ⌜ now (path .exit) ≡ runPath (now (s .entry)) (now (values .entry)) (now (given .entry)) (now (states .entry)) flow (now (wanted .entry)) (now (path .entry)) ⌝ }
     ensures { λ r. ⌜ now (states .exit) ≡ runStates (now (s .entry)) (now (values .entry)) (now (given .entry)) (now (states .entry)) flow (now (wanted .entry)) (now (path .entry)) ⌝ }
 {
     match climb_run(s, values, given, states, flow, wanted, path.len()) {
-        Climbed::Stopped(r) => Walk::Refused(r),
+        Climbed::Stopped(r) => Counted::Refused(r),
         Climbed::At(h) => go(s, h, values, given, states, Flow(num(flow)), wanted, path),
     }
 }

@@ -8,9 +8,9 @@ use Prim.Native.Nat.{ℕ, _<_}
 use lib.IntN.{ℤ}
 use native.Mathlib.Omega.{arith}
 use Rattle.tables.proofs.Bools.{bool-cases}
-use Rattle.answer.specs.Inner.{SmallWalk}
+use Rattle.answer.specs.Inner.{SmallCounted}
 use Rattle.answer.specs.declared.Refusal.the-variants.{NotPath}
-use Rattle.answer.specs.declared.Walk.the-variants.{Refused}
+use Rattle.answer.specs.declared.Counted.the-variants.{Refused}
 use Rattle.layout.specs.declared.Header.{Header}
 use Rattle.records.specs.Accepted.{Accepted}
 use Rattle.walks.specs.Paths.{PathOf, paths, path}
@@ -70,18 +70,18 @@ module _ {s : List ℤ} {h : Header} {f : ℕ} {b : List ℕ} (u : Lent s h f b)
 -- ---- answers fit a signed word
 
 module _ {s : List ℤ} {h : Header} {f : ℕ} (a : Accepted s h) (l : f < h .flows) where
-  small-walk : (p : List ℕ) → List·Memᴰ p (paths s h f) → SmallWalk (walkOf s h p)
+  small-walk : (p : List ℕ) → List·Memᴰ p (paths s h f) → SmallCounted (walkOf s h p)
   small-walk p m = let z = path-small s h a f l p (paths-sound s h a f l p m) in (omega arith, omega arith)
 
-  pub first-small : SmallWalk (firstWalk s h f)
+  pub first-small : SmallCounted (firstWalk s h f)
   unfolding firstWalk path
   first-small = small-walk (path s h f 0) (mem-at (paths s h f) 0 (paths-some s h a f l))
 
-  pub next-small : (b : List ℕ) → SmallWalk (nextWalk s h f b)
+  pub next-small : (b : List ℕ) → SmallCounted (nextWalk s h f b)
   unfolding nextWalk answerOf
   next-small b = go (following (paths s h f) b) refl
     where
-      go : (x : Following) → following (paths s h f) b ≡ x → SmallWalk (answerOf s h x)
+      go : (x : Following) → following (paths s h f) b ≡ x → SmallCounted (answerOf s h x)
       go Absent e = omega arith
       go Final e = omega arith
       go (Then p) e = small-walk p (then-mem (paths s h f) b p e)

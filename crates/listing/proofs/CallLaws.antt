@@ -9,8 +9,8 @@ use lib.IntN.{ℤ}
 use lib.ListN.{length, getD, take, set, replicate, length-set}
 use lib.Seq.{sets, length-sets, length-take-le, take-suc-set, append-snoc}
 use Rattle.answer.specs.declared.Refusal.the-variants.{NotPath, LastPath}
-use Rattle.answer.specs.declared.Walk.{Walk}
-use Rattle.answer.specs.declared.Walk.the-variants.{Refused}
+use Rattle.answer.specs.declared.Counted.{Counted}
+use Rattle.answer.specs.declared.Counted.the-variants.{Refused}
 use Rattle.layout.specs.declared.Header.{Header}
 use Rattle.walks.specs.declared.Walker.{Walker}
 use Rattle.walks.specs.Paths.{firstRouteOf, paths, path}
@@ -60,7 +60,7 @@ module _ {s : List ℤ} {h : Header} {f : ℕ} {b : List ℕ} (u : Lent s h f b)
       subst (λ (p : List ℕ). arrived (walked s h w p) ≡ walkOf s h p) (sym z)
       (arrives s h w [] (firstRouteOf s h (w .step)) (firstWay s h (taken s h w (firstRouteOf s h (w .step)))) refl)
 
-  pub first-done : {w : Walker} {r : Walk} {e : List ℕ} → w ≡ started s h f → r ≡ arrived (walked s h w (firstWay s h w))
+  pub first-done : {w : Walker} {r : Counted} {e : List ℕ} → w ≡ started s h f → r ≡ arrived (walked s h w (firstWay s h w))
       → e ≡ laid (take (w .length) b ++ firstWay s h w) b
       → (r ≡ firstWalk s h f) × (e ≡ firstLaid s h f b)
   unfolding firstWalk firstLaid started
@@ -119,7 +119,7 @@ module _ {s : List ℤ} {h : Header} {f : ℕ} {b : List ℕ} {r : Found} (k : S
       turn-going =
           rw (q, length-set b (v .length) (turnRoute b v)) (going-on (turnable .going) (turnable .on) (turnRoute b v) (turnable .route))
 
-      pub next-done : {t : Walk} {d : List ℕ} → t ≡ arrived (walked s h w (firstWay s h w))
+      pub next-done : {t : Counted} {d : List ℕ} → t ≡ arrived (walked s h w (firstWay s h w))
           → d ≡ laid (take (w .length) (set b (v .length) (turnRoute b v)) ++ firstWay s h w) (set b (v .length) (turnRoute b v))
           → (t ≡ nextWalk s h f b) × (d ≡ nextLaid s h f b)
       unfolding nextWalk nextLaid answerOf bufferOf

@@ -11,7 +11,7 @@ use native.Mathlib.Omega.{arith}
 use native.Mathlib.Decide.{decLt}
 use borrow.Author.Tests.{eq-eqb, ne-eqb}
 use Rattle.answer.specs.declared.Refusal.the-variants.{LastPath}
-use Rattle.answer.specs.declared.Walk.the-variants.{Refused}
+use Rattle.answer.specs.declared.Counted.the-variants.{Refused}
 use Rattle.layout.specs.declared.Header.{Header}
 use Rattle.walks.specs.Paths.{Before, here, later, paths, path}
 use Rattle.walks.specs.Inner.{PathList, Lent}

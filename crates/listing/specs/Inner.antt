@@ -5,7 +5,7 @@ use Prim.Native.Nat.{ℕ, _-_, _≤_, _<_, zero, suc, min}
 use lib.IntN.{ℤ}
 use lib.ListN.{length, take}
 use Rattle.answer.specs.declared.Refusal.the-variants.{LastPath}
-use Rattle.answer.specs.declared.Walk.the-variants.{Path as Walked, Refused}
+use Rattle.answer.specs.declared.Counted.the-variants.{Is as Walked, Refused}
 use Rattle.layout.specs.declared.Header.{Header}
 use Rattle.walks.specs.Paths.{terminal, paths, path, last, next}
 use Rattle.walks.specs.Follows.{walkOf, laid}

@@ -4,7 +4,7 @@ use mathlib.Core.List.{List, [], _∷_}
 use Prim.Native.Nat.{ℕ, suc, _-_}
 use lib.IntN.{ℤ}
 use lib.ListN.{length}
-use Rattle.answer.specs.declared.Walk.{Walk}
+use Rattle.answer.specs.declared.Counted.{Counted}
 use Rattle.layout.specs.declared.Header.{Header}
 use Rattle.walks.specs.Paths.{paths}
 
@@ -16,7 +16,7 @@ pub data Call : Type 0 where
 -- what a call leaves in the buffer, and what it answers
 pub record State : Type 0 where
   pub buffer : List ℕ
-  pub answer : Walk
+  pub answer : Counted
 
 -- the number of next calls since the latest first, where n of them stand before the list
 unfoldable pub nexts : ℕ → List Call → ℕ

@@ -9,8 +9,8 @@ ghost use Rattle.walks.specs.Follows.{laid};
 ghost use Rattle.walks.specs.Inner.{walked, firstWay, Going, Lent};
 ghost use Rattle.listing.specs.Calls.{firstWalk, firstLaid, nextWalk, nextLaid};
 ghost use Rattle.listing.specs.Seeks.{Sought};
+use answer::Counted;
 use answer::Refusal;
-use answer::Walk;
 use layout::Flow;
 use layout::Header;
 use walks::Walker;
@@ -45,21 +45,21 @@ fn descend(s: &[i64], h: Header, from: Walker, path: &mut [u16]) -> Walker
 }
 
 // Goes on to a terminal by first routes, and clears the buffer past the path.
-fn finish(s: &[i64], h: Header, from: Walker, path: &mut [u16]) -> Walk
+fn finish(s: &[i64], h: Header, from: Walker, path: &mut [u16]) -> Counted
     requires { ⌜ Going (now s) h from (length (now path)) ⌝ }
     ensures { λ r. ⌜ r ≡ arrived (walked (now (s .entry)) h from (firstWay (now (s .entry)) h from)) ⌝ }
     ensures { λ r. ⌜ now (path .exit) ≡ laid (take (from .length) (now (path .entry)) ++ firstWay (now (s .entry)) h from) (now (path .entry)) ⌝ }
 {
     let w = descend(s, h, from, path);
     clear(path, w.length);
-    Walk::Path {
-        terminal: w.step,
-        length: w.length,
+    Counted::Is {
+        value: w.step,
+        count: w.length,
     }
 }
 
 // Path 0 of a flow.
-pub fn first(s: &[i64], h: Header, flow: Flow, path: &mut [u16]) -> Walk
+pub fn first(s: &[i64], h: Header, flow: Flow, path: &mut [u16]) -> Counted
     requires { ⌜ Lent (now s) h (flow .0) (now path) ⌝ }
     ensures { λ r. ⌜ r ≡ firstWalk (now (s .entry)) h (flow .0) ⌝ }
     ensures { λ r. ⌜ now (path .exit) ≡ firstLaid (now (s .entry)) h (flow .0) (now (path .entry)) ⌝ }
@@ -95,14 +95,14 @@ fn seek(s: &[i64], h: Header, flow: Flow, path: &[u16]) -> Found
 }
 
 // The path of a flow that follows the one at the buffer's head.
-pub fn next(s: &[i64], h: Header, flow: Flow, path: &mut [u16]) -> Walk
+pub fn next(s: &[i64], h: Header, flow: Flow, path: &mut [u16]) -> Counted
     requires { ⌜ Lent (now s) h (flow .0) (now path) ⌝ }
     ensures { λ r. ⌜ r ≡ nextWalk (now (s .entry)) h (flow .0) (now (path .entry)) ⌝ }
     ensures { λ r. ⌜ now (path .exit) ≡ nextLaid (now (s .entry)) h (flow .0) (now (path .entry)) ⌝ }
 {
     match seek(s, h, flow, path) {
-        Found::Nowhere => Walk::Refused(Refusal::NotPath),
-        Found::Last => Walk::Refused(Refusal::LastPath),
+        Found::Nowhere => Counted::Refused(Refusal::NotPath),
+        Found::Last => Counted::Refused(Refusal::LastPath),
         Found::Turn(w) => {
             let at = w.length;
             let route = path[at] as usize + 1;

@@ -13,8 +13,8 @@ use lib.IntN.{ℤ}
 use lib.ListN.{length, take, drop, length-take, drop-of-length-le}
 use lib.Seq.{drop-cons, getD-take}
 use Rattle.answer.specs.declared.Refusal.{Refusal}
-use Rattle.answer.specs.declared.Walk.{Walk}
-use Rattle.answer.specs.declared.Walk.the-variants.{Path as Walked, Refused}
+use Rattle.answer.specs.declared.Counted.{Counted}
+use Rattle.answer.specs.declared.Counted.the-variants.{Is as Walked, Refused}
 use Rattle.layout.specs.declared.Header.{Header}
 use Rattle.records.proofs.FlowLaws.{flow-ok}
 use Rattle.walks.specs.Paths.{paths, path, terminal}
@@ -138,7 +138,7 @@ module _ {s : List ℤ} {h : Header} {b : List ℕ} (u : Ready s h b) where
         same = remaining-past s h c (omega arith) ∙ sym (flows-past s h f l);
       }
 
-  module _ {f : ℕ} (l : f < h .flows) {r : Walk} (e : r ≡ firstWalk s h f) where
+  module _ {f : ℕ} (l : f < h .flows) {r : Counted} (e : r ≡ firstWalk s h f) where
     pub first-refused : {q : Refusal} → r ≡ Refused q → ⊥
     unfolding firstWalk
     first-refused {q} p = walked-refused s h (path s h f 0) q (sym e ∙ p)
@@ -206,7 +206,7 @@ module _ {s : List ℤ} {h : Header} {c : Cursor} {b : List ℕ} (u : Stands s h
   pub follow-most : most ≤ c .number + 1 → {d : List ℕ} {c′ : Cursor} {b′ : List ℕ} → Starts s h (c .flow + 1) d c′ b′ → Follows s h c c′ b′
   follow-most m {d} {c′} {b′} t = follow-flow (inr (omega arith)) (rw (add-one (c .flow)) at t)
 
-  module _ {r : Walk} (e : r ≡ nextWalk s h (c .flow) b) where
+  module _ {r : Counted} (e : r ≡ nextWalk s h (c .flow) b) where
     -- refused: no path follows
     last-count : {q : Refusal} → r ≡ Refused q → count s h (c .flow) ≤ suc (c .number)
     unfolding nextWalk answerOf

@@ -11,8 +11,8 @@ ghost use Rattle.path_lines.specs.Output.{numbersLine, sheetLines, refus
 ghost use Rattle.path_lines.specs.Steps.{endingOf, numberField, refusedField};
 ghost use Rattle.path_lines.specs.Chunks.{remaining, Ready, Stands, Starts, Follows, Chunk};
 use answer::Count;
+use answer::Counted;
 use answer::Refusal;
-use answer::Walk;
 use answer::signed;
 use ladder::Climbed;
 use layout::Flow;
@@ -177,14 +177,17 @@ fn enter(s: &[i64], h: Header, flow: usize, path: &mut [u16], cut: bool) -> Curs
         };
     }
     match listing::first(s, h, Flow(flow), path) {
-        Walk::Path { terminal, length } => Cursor {
+        Counted::Is {
+            value: terminal,
+            count: length,
+        } => Cursor {
             flow,
             number: 0,
             terminal,
             length,
             cut,
         },
-        Walk::Refused(_) => Cursor {
+        Counted::Refused(_) => Cursor {
             flow,
             number: 0,
             terminal: 0,
@@ -212,7 +215,10 @@ fn advance(s: &[i64], h: Header, cursor: Cursor, path: &mut [u16]) -> Cursor
     let number = cursor.number + 1;
     let cut = cursor.cut;
     match listing::next(s, h, Flow(flow), path) {
-        Walk::Path { terminal, length } => {
+        Counted::Is {
+            value: terminal,
+            count: length,
+        } => {
             if MOST <= number {
                 return enter(s, h, flow + 1, path, true);
             }
@@ -224,7 +230,7 @@ fn advance(s: &[i64], h: Header, cursor: Cursor, path: &mut [u16]) -> Cursor
                 cut,
             }
         }
-        Walk::Refused(_) => enter(s, h, flow + 1, path, cut),
+        Counted::Refused(_) => enter(s, h, flow + 1, path, cut),
     }
 }
 

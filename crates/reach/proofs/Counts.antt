@@ -1,6 +1,6 @@
 -- How many numbers below a bound pass a test.
 -- Assumes nothing.
-use mathlib.Core.Path.{_≡_, refl, sym}
+use mathlib.Core.Path.{_≡_, refl, sym, _∙_}
 use mathlib.Core.Bool.{Bool, true, false, cond}
 use mathlib.Core.Logic.{_⊎_, ⊎-elim}
 use mathlib.Core.List.{List}
@@ -9,15 +9,12 @@ use native.Mathlib.Omega.{arith}
 use native.Mathlib.Decide.{ℕ-discrete}
 use lib.ListN.{length, getD, set}
 use lib.Seq.{getD-set-same, getD-set-other}
-use Rattle.tables.specs.Scan.{sumBelow}
 use Rattle.tables.proofs.Bools.{true-false}
 use Rattle.tables.proofs.Scans.{below-suc, sum-zero, sum-suc}
+use Rattle.reach.specs.Reached.{countBelow}
 
 abbrev one : Bool → ℕ
 one b = cond b 1 0
-
-unfoldable pub countBelow : (ℕ → Bool) → ℕ → ℕ
-countBelow f n = sumBelow (λ q. one (f q)) n
 
 pub count-zero : (f : ℕ → Bool) → countBelow f 0 ≡ 0
 unfolding countBelow
@@ -45,6 +42,11 @@ module _ (f g : ℕ → Bool) where
   count-mono zero k = rw (count-zero f, count-zero g) (omega arith)
   count-mono (suc n) k =
       rw (count-suc f n, count-suc g n) (omega (arith, count-mono n (λ q l. k q (omega arith)), one-mono (f n) (g n) (k n (omega arith))))
+
+  -- tests that agree hold equally often
+  pub count-agree : (n : ℕ) → ((q : ℕ) → q < n → f q ≡ g q) → countBelow f n ≡ countBelow g n
+  count-agree zero k = count-zero f ∙ sym (count-zero g)
+  count-agree (suc n) k = count-suc f n ∙ rw (count-agree n (λ q l. k q (omega arith)), k n (omega arith)) (sym (count-suc g n))
 
   -- and, where it holds no more often, nowhere else
   pub count-same : (n : ℕ) → ((q : ℕ) → q < n → f q ≡ true → g q ≡ true) → countBelow g n ≤ countBelow f n → (q : ℕ) → q < n → g q ≡ f q

@@ -1,17 +1,17 @@
 -- The states found and those scanned: what is found is reached, and what a scanned state leads to is found. Where all that is found is
 -- scanned, all that is reached is found.
 -- Assumes nothing.
-use mathlib.Core.Path.{_≡_, refl, sym, subst, _∙_}
+use mathlib.Core.Path.{_≡_, refl, sym, ap, subst, _∙_}
 use mathlib.Core.Bool.{Bool, true, false, not, _&&_}
 use mathlib.Core.List.{List}
 use mathlib.Core.Logic.{_⊎_, inl, inr, ⊎-elim}
 use Prim.Native.Nat.{ℕ, _+_, _-_, _≤_, _<_}
 use lib.IntN.{ℤ}
-use lib.ListN.{length, getD, set, replicate, length-set, getD-replicate}
+use lib.ListN.{length, getD, set, replicate, length-set, length-replicate, getD-replicate}
 use lib.Seq.{getD-set-same, getD-set-other}
 use native.Mathlib.Omega.{arith}
 use native.Mathlib.Decide.{ℕ-discrete}
-use Rattle.tables.specs.Scan.{anyBelow}
+use Rattle.tables.specs.Scan.{anyBelow, sumBelow}
 use Rattle.tables.proofs.Bools.{tests, true-false, or-cases, or-true-left, or-true-right, same-tests}
 use Rattle.tables.proofs.Scans.{any-at, any-of}
 use Rattle.tables.proofs.Scanned.{first-scan}
@@ -20,18 +20,21 @@ use Rattle.layout.specs.declared.Header.{Header}
 use Rattle.layout.specs.Header.{firstEntity}
 use Rattle.layout.specs.Tables.{entity, transition}
 use Rattle.records.specs.Accepted.{Accepted}
-use Rattle.reach.specs.Reached.{Reached, initial, along, flagged, maskBelow, reachable}
+use Rattle.operation.specs.Mask.{inMask}
+use Rattle.reach.specs.Reached.{Reached, initial, along, flagged, maskBelow, reachable, countBelow, statesIn, scans}
 use Rattle.reach.specs.Moves.{leaves, leads}
-use Rattle.reach.specs.Inner.{leadsBy, Spread, settled, nextOpen}
-use Rattle.reach.proofs.Counts.{countBelow, count-most, count-set}
-use Rattle.reach.proofs.Masks.{mask-same}
+use Rattle.reach.specs.Inner.{leadsBy, Spread, Kept, Ready, settled, nextOpen}
+use Rattle.reach.proofs.Counts.{count-most, count-set, count-agree}
+use Rattle.reach.proofs.Masks.{mask-same, mask-bit}
 use Rattle.reach.proofs.Rounds.{flag-in, reached-below, flagged-reached}
 
--- how many states are scanned: as many as there were scans of the transitions
-abbrev pub scans : List Bool → ℕ
-scans scanned = countBelow (λ q. getD scanned q false) 16
+-- how many states are scanned
+abbrev pub statesScanned : List Bool → ℕ
+statesScanned scanned = countBelow (λ q. getD scanned q false) 16
 
-pub record Exploring (s : List ℤ) (h : Header) (n : ℕ) (found scanned : List Bool) (state : ℕ) : Type 0 where
+pub record Exploring (s : List ℤ) (h : Header) (n : ℕ) (moves found scanned : List Bool) (state turns : ℕ) : Type 0 where
+  pub moves-long : length moves ≡ 256
+  pub ready : Ready s h n turns moves
   pub found-long : length found ≡ 16
   pub scanned-long : length scanned ≡ 16
   pub within : (q : ℕ) → getD scanned q false ≡ true → getD found q false ≡ true
@@ -41,6 +44,12 @@ pub record Exploring (s : List ℤ) (h : Header) (n : ℕ) (found scanned : List
       → getD found (transition s h k .w2) false ≡ true
   pub fresh : state < 16 → (getD found state false ≡ true) × (getD scanned state false ≡ false)
   pub all : 16 ≤ state → (q : ℕ) → q < 16 → getD found q false ≡ true → getD scanned q false ≡ true
+  -- each scan is counted
+  pub counted : turns ≡ statesScanned scanned
+
+none-scanned : statesScanned (replicate 16 false) ≡ 0
+unfolding countBelow sumBelow
+none-scanned = refl
 
 -- no flag is set
 clear : (q : ℕ) → getD (replicate 16 false) q false ≡ true → ⊥
@@ -56,10 +65,13 @@ module _ {s : List ℤ} {h : Header} (a : Accepted s h) (n : ℕ) (l : n < h .en
   initial-few state e = rw e (reached-below a n l initial)
 
   -- the initial state is found, and is the first to be scanned
-  pub outset : (state : ℕ) → state ≡ entity s h n .w1 → Exploring s h n (set (replicate 16 false) state true) (replicate 16 false) state
+  pub outset : (state : ℕ) → state ≡ entity s h n .w1
+      → Exploring s h n (replicate 256 false) (set (replicate 16 false) state true) (replicate 16 false) state 0
   outset state e =
       let set-at : getD (set (replicate 16 false) state true) state false ≡ true = getD-set-same (replicate 16 false) state true false (initial-few state e) in
       record {
+        moves-long = length-replicate 256 false;
+        ready = record { first = λ z. refl; later = λ m. absurd (omega arith) };
         found-long = length-set (replicate 16 false) state true;
         scanned-long = refl;
         within = λ q p. absurd (clear q p);
@@ -68,24 +80,30 @@ module _ {s : List ℤ} {h : Header} (a : Accepted s h) (n : ℕ) (l : n < h .en
         closed = λ q p k m x y. absurd (clear q p);
         fresh = λ m. (set-at, getD-replicate 16 state false false m);
         all = λ m q k p. absurd (omega (arith, initial-few state e));
+        counted = sym none-scanned;
       }
     where
       only : (q : ℕ) → getD (set (replicate 16 false) state true) q false ≡ true → Dec (q ≡ state) → Reached s h n q
       only q p (yes z) = subst (Reached s h n) (sym (z ∙ e)) initial
       only q p (no x) = absurd (clear q (sym (getD-set-other (replicate 16 false) state q true false x) ∙ p))
 
-  module _ (found scanned : List Bool) (state : ℕ) (r : Exploring s h n found scanned state) where
-    pub still-long : length (set scanned state true) ≡ 16
-    still-long = length-set scanned state true ∙ r .scanned-long
+  module _ (moves found scanned : List Bool) (state turns : ℕ) (r : Exploring s h n moves found scanned state turns) where
+    pub still-long : (b : Bool) → length (set scanned state b) ≡ 16
+    still-long b = length-set scanned state b ∙ r .scanned-long
 
     -- a state more is scanned
-    pub fewer : state < 16 → 16 - scans (set scanned state true) < 16 - scans scanned
-    fewer m =
-        let e = count-set scanned state 16 m (omega (arith, r .scanned-long)) (r .fresh m .1) in
-        omega (arith, e, count-most (λ q. getD (set scanned state true) q false) 16)
+    one-more : state < 16 → statesScanned (set scanned state true) ≡ statesScanned scanned + 1
+    one-more m = count-set scanned state 16 m (omega (arith, r .scanned-long)) (r .fresh m .1)
 
-    module _ (found′ : List Bool) (state′ : ℕ) (m : state < 16) (w : Spread s h n state found found′)
-        (o : state′ ≡ nextOpen found′ (set scanned state true)) where
+    pub fewer : state < 16 → 16 - statesScanned (set scanned state true) < 16 - statesScanned scanned
+    fewer m = omega (arith, one-more m, count-most (λ q. getD (set scanned state true) q false) 16)
+
+    -- there are sixteen scans at most
+    pub turns-few : turns ≤ 16
+    turns-few = omega (arith, r .counted, count-most (λ q. getD scanned q false) 16)
+
+    module _ (moves′ found′ : List Bool) (state′ turns′ : ℕ) (m : state < 16) (u : turns′ ≡ turns + 1) (v : Kept s h n moves′)
+        (w : Spread s h n state found found′) (o : state′ ≡ nextOpen found′ (set scanned state true)) where
       kept : (q : ℕ) → getD found q false ≡ true → getD found′ q false ≡ true
       kept q p = w .each q (omega (arith, flag-in found q p, r .found-long)) ∙ or-true-left _ _ p
 
@@ -128,13 +146,15 @@ module _ {s : List ℤ} {h : Header} (a : Accepted s h) (n : ℕ) (l : n < h .en
           go true false p = (refl, refl)
           go false y p = absurd (true-false refl p)
 
-      pub onward : Exploring s h n found′ (set scanned state true) state′
+      pub onward : Exploring s h n moves′ found′ (set scanned state true) state′ turns′
       unfolding nextOpen
       onward =
           let scan = first-scan (settled found′ (set scanned state true)) 16 in
           record {
+            moves-long = v .long;
+            ready = record { first = λ z. absurd (omega (arith, u, z)); later = λ _. v };
             found-long = w .long;
-            scanned-long = still-long;
+            scanned-long = still-long true;
             within = λ q p. ⊎-elim (λ z. rw z (kept state (r .fresh m .0))) (λ z. kept q (r .within q z)) (was q p (ℕ-discrete q state));
             sound =
                 λ q p. ⊎-elim (λ z. r .sound q z) (λ z. led q z) (or-cases _ _ (sym (w .each q (omega (arith, flag-in found′ q p, w .long))) ∙ p));
@@ -142,6 +162,7 @@ module _ {s : List ℤ} {h : Header} (a : Accepted s h) (n : ℕ) (l : n < h .en
             closed = λ q p k j x y. ⊎-elim (λ z. leads-to k j x (y ∙ z)) (λ z. kept _ (r .closed q z k j x y)) (was q p (ℕ-discrete q state));
             fresh = λ j. rw o (unsettled _ (scan .fails (rw o at j)));
             all = λ j q k p. settled-scanned q (scan .passed q (omega arith) (omega (arith, o))) p;
+            counted = u ∙ rw (r .counted) (sym (one-more m));
           }
 
     -- nothing is left to scan: all that is reached is found
@@ -156,3 +177,16 @@ module _ {s : List ℤ} {h : Header} (a : Accepted s h) (n : ℕ) (l : n < h .en
           mask-same (λ q. getD found q false) (λ q. getD (flagged s h n 16) q false) 16
           (λ q k. same-tests (getD found q false) (getD (flagged s h n 16) q false) (λ p. flagged-reached a n l q .1 (r .sound q p))
           (λ p. all-found (flagged-reached a n l q .0 p)))
+
+      -- and there was a scan for each state in the mask
+      pub scans-are : turns ≡ scans s h n
+      unfolding scans statesIn
+      scans-are =
+          r .counted
+          ∙ count-agree (λ q. getD scanned q false) (inMask (reachable s h n)) 16 (λ q k. same q k ∙ in-mask q k)
+        where
+          same : (q : ℕ) → q < 16 → getD scanned q false ≡ getD found q false
+          same q k = same-tests _ _ (r .within q) (r .all g q k)
+
+          in-mask : (q : ℕ) → q < 16 → getD found q false ≡ inMask (reachable s h n) q
+          in-mask q k = sym (ap (λ (m : ℕ). inMask m q) (sym finished) ∙ mask-bit (λ q. getD found q false) 16 q k)

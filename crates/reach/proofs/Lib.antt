@@ -2,6 +2,6 @@ pub mod Masks
 pub mod Counts
 pub mod Rounds
 pub mod Flags
-pub mod Spreading
+pub mod Scanning
 pub mod Exploring
 pub mod Steps

@@ -23,8 +23,8 @@ use Rattle.records.specs.Accepted.{Accepted}
 use Rattle.records.specs.Entities.{states}
 use Rattle.records.proofs.OperationLaws.{entity-ok, transition-ok}
 use Rattle.operation.specs.Mask.{inMask}
-use Rattle.reach.specs.Reached.{Reached, initial, along, enters, round, flagged, maskBelow, reachable}
-use Rattle.reach.proofs.Counts.{countBelow, count-most, count-same}
+use Rattle.reach.specs.Reached.{Reached, initial, along, enters, round, flagged, maskBelow, reachable, countBelow, statesIn, scans}
+use Rattle.reach.proofs.Counts.{count-most, count-same}
 use Rattle.reach.proofs.Masks.{mask-below, mask-bit, mask-past}
 
 -- a flag that is set is among the flags
@@ -177,3 +177,8 @@ module _ {s : List ℤ} {h : Header} (a : Accepted s h) (n : ℕ) (l : n < h .en
 pub mask-small : (s : List ℤ) (h : Header) (n : ℕ) → reachable s h n < 2 ^ 16
 unfolding reachable
 mask-small s h n = mask-below (λ q. getD (flagged s h n 16) q false) 16
+
+-- an entity has 16 states at most
+pub scans-few : (s : List ℤ) (h : Header) (n : ℕ) → scans s h n ≤ 16
+unfolding scans statesIn
+scans-few s h n = count-most (inMask (reachable s h n)) 16

@@ -1,4 +1,4 @@
--- 01, S2: "a mask of states reached from the initial one by zero or more declared transitions."
+-- 01, S2: "a mask of states reached from the initial one by zero or more declared transitions." 02, CR 5: its scans.
 -- Assumes nothing.
 use mathlib.Core.Path.{_≡_}
 use mathlib.Core.Bool.{Bool, false, cond, _&&_, _||_}
@@ -11,6 +11,7 @@ use Rattle.tables.specs.Scan.{anyBelow, sumBelow}
 use Rattle.tables.specs.Table.{grown}
 use Rattle.layout.specs.declared.Header.{Header}
 use Rattle.layout.specs.Tables.{entity, transition, initialOf, entityOf, fromOf, toOf}
+use Rattle.operation.specs.Mask.{inMask}
 
 -- the states of entity n that are reached: the initial one, and where a declared transition leads from one that is reached
 pub data Reached (s : List ℤ) (h : Header) (n : ℕ) : ℕ → Type 0 where
@@ -39,3 +40,17 @@ maskBelow f n = sumBelow (λ q. cond (f q) (2 ^ q) 0) n
 -- S2: an entity has 16 states at most, so 16 rounds find each state that is reached
 unfoldable pub reachable : List ℤ → Header → ℕ → ℕ
 reachable s h n = let t = flagged s h n 16 in maskBelow (λ q. getD t q false) 16
+
+-- ---- 02, CR 5
+
+-- how many of the numbers below n f holds of
+unfoldable pub countBelow : (ℕ → Bool) → ℕ → ℕ
+countBelow f n = sumBelow (λ q. cond (f q) 1 0) n
+
+-- "the number of states in the mask"
+unfoldable pub statesIn : ℕ → ℕ
+statesIn mask = countBelow (inMask mask) 16
+
+-- "scan the transitions once for each state found, the initial one included, and no more"
+unfoldable pub scans : List ℤ → Header → ℕ → ℕ
+scans s h n = let mask = reachable s h n in statesIn mask

@@ -1,18 +1,25 @@
-// Report S2: the mask of the states of an entity that are reached from its initial one.
+// Report S2: the mask of the states of an entity that are reached from its initial one, and how many scans of transitions found it.
 ghost use mathlib.Core.Path.{_≡_};
 ghost use mathlib.Core.Bool.{false, cond};
-ghost use Prim.Native.Nat.{_<_, _^_};
-ghost use lib.ListN.{length, getD};
+ghost use Prim.Native.Nat.{_+_, _≤_, _<_, _^_};
+ghost use lib.ListN.{length, getD, replicate};
 ghost use Rattle.records.specs.Accepted.{Accepted};
-ghost use Rattle.reach.specs.Reached.{maskBelow, reachable};
+ghost use Rattle.reach.specs.Reached.{maskBelow, reachable, scans};
 ghost use Rattle.reach.specs.Moves.{leaves};
-ghost use Rattle.reach.specs.Inner.{Spread, nextOpen};
+ghost use Rattle.reach.specs.Inner.{Spread, Kept, Ready, Joined, nextOpen};
 use layout::Entity;
 use layout::Header;
 use layout::place;
+use tables::mark;
 use words::Record;
 use words::number;
 use words::record_at;
+
+// What S2 finds: the states as a mask, and how often transitions were scanned.
+pub struct Reach {
+    pub mask: usize,
+    pub scans: usize,
+}
 
 // Whether a transition or an effect is entity n's and starts from state a.
 pub fn leaves(n: Entity, a: usize, r: Record) -> bool
@@ -21,23 +28,64 @@ pub fn leaves(n: Entity, a: usize, r: Record) -> bool
     (r.w0 == n.0) & (r.w1 == a)
 }
 
-// Flags the states that the entity's transitions lead to from `state`: one scan of the transitions.
-fn scan(s: &[i64], h: Header, n: Entity, state: usize, found: &mut [bool])
+// Goes through the sheet's transitions: flags the states that the entity's lead to from `state`, and keeps the entity's moves.
+fn scan_sheet(s: &[i64], h: Header, n: Entity, state: usize, moves: &mut [bool], found: &mut [bool])
     requires { ⌜ Accepted (now s) h ⌝ }
-    requires { ⌜ length (now found) ≡ 16 ⌝ }
+    requires { ⌜ (now moves ≡ replicate 256 false) × (length (now found) ≡ 16) ⌝ }
+    ensures { λ r. ⌜ Kept (now (s .entry)) h (n .0) (now (moves .exit)) ⌝ }
     ensures { λ r. ⌜ Spread (now (s .entry)) h (n .0) state (now (found .entry)) (now (found .exit)) ⌝ }
 {
     let base = h.first_transition();
     let mut k = 0;
     while k < h.transitions {
         let r = record_at(s, base + k);
-        if leaves(n, state, r) {
-            let to = r.w2;
-            found[to] = true;
+        if r.w0 == n.0 {
+            let at = 16 * r.w1 + r.w2;
+            moves[at] = true;
+            mark(found, leaves(n, state, r), r.w2);
             k += 1;
         } else {
             k += 1;
         }
+    }
+}
+
+// Goes through the moves kept that lead from `state`.
+fn scan_moves(moves: &[bool], state: usize, found: &mut [bool])
+    requires { ⌜ (length (now moves) ≡ 256) × (state < 16) × (length (now found) ≡ 16) ⌝ }
+    ensures { λ r. ⌜ Joined (now (moves .entry)) state (now (found .entry)) (now (found .exit)) ⌝ }
+{
+    let row = 16 * state;
+    let mut q = 0;
+    while q < 16 {
+        found[q] = found[q] | moves[row + q];
+        q += 1;
+    }
+}
+
+// One scan, for one state, which counts itself. The first goes through the sheet's transitions; a later one meets none of another entity or
+// from another state.
+fn scan(
+    s: &[i64],
+    h: Header,
+    n: Entity,
+    state: usize,
+    scans: usize,
+    moves: &mut [bool],
+    found: &mut [bool],
+) -> usize
+    requires { ⌜ Accepted (now s) h × (state < 16) × (scans ≤ 16) ⌝ }
+    requires { ⌜ Ready (now s) h (n .0) scans (now moves) × (length (now found) ≡ 16) ⌝ }
+    ensures { λ r. ⌜ r ≡ scans + 1 ⌝ }
+    ensures { λ r. ⌜ Kept (now (s .entry)) h (n .0) (now (moves .exit)) ⌝ }
+    ensures { λ r. ⌜ Spread (now (s .entry)) h (n .0) state (now (found .entry)) (now (found .exit)) ⌝ }
+{
+    if scans == 0 {
+        scan_sheet(s, h, n, state, moves, found);
+        1
+    } else {
+        scan_moves(moves, state, found);
+        scans + 1
     }
 }
 
@@ -78,20 +126,25 @@ fn mask_of(found: &[bool]) -> usize
     mask
 }
 
-// S2. Each state that is found is scanned once, the initial one first.
-pub fn reachable(s: &[i64], h: Header, n: Entity) -> usize
+// S2. The transitions are scanned once for each state that is found, the initial one first.
+pub fn reachable(s: &[i64], h: Header, n: Entity) -> Reach
     requires { ⌜ Accepted (now s) h ⌝ }
     requires { ⌜ n .0 < h .entities ⌝ }
-    ensures { λ r. ⌜ r ≡ reachable (now (s .entry)) h (n .0) ⌝ }
+    ensures { λ r. ⌜ (r .mask ≡ reachable (now (s .entry)) h (n .0)) × (r .scans ≡ scans (now (s .entry)) h (n .0)) ⌝ }
 {
+    let mut moves = [false; 256];
     let mut found = [false; 16];
     let mut scanned = [false; 16];
+    let mut scans = 0;
     let mut state = number(s, h.first_entity() + n.0, place::ENTITY_INITIAL);
     found[state] = true;
     while state < 16 {
         scanned[state] = true;
-        scan(s, h, n, state, &mut found);
+        scans = scan(s, h, n, state, scans, &mut moves, &mut found);
         state = next_open(&found, &scanned);
     }
-    mask_of(&found)
+    Reach {
+        mask: mask_of(&found),
+        scans,
+    }
 }

@@ -11,13 +11,14 @@ use Rattle.tables.proofs.Bools.{tests}
 use Rattle.signed.specs.Words.{num}
 use Rattle.answer.specs.declared.Refusal.the-variants.{Missing}
 use Rattle.answer.specs.declared.Status.the-variants.{Done}
-use Rattle.answer.specs.declared.Count.{Count}
 use Rattle.answer.specs.declared.Count.the-variants.{Is, Refused as NoCount}
+use Rattle.answer.specs.declared.Counted.{Counted}
+use Rattle.answer.specs.declared.Counted.the-variants.{Is as IsCounted, Refused as NotCounted}
 use Rattle.layout.specs.declared.Header.{Header}
 use Rattle.records.specs.Accepted.{Accepted}
 use Rattle.records.specs.Entities.{states}
 use Rattle.operation.specs.Mask.{inMask}
-use Rattle.reach.specs.Reached.{Reached, reachable}
+use Rattle.reach.specs.Reached.{Reached, reachable, statesIn, scans}
 use Rattle.reach.proofs.Rounds.{reached-in-mask}
 use Rattle.ladder.specs.declared.Climbed.{Climbed}
 use Rattle.ladder.specs.declared.Climbed.the-variants.{At}
@@ -57,18 +58,21 @@ module _ (s : List ℤ) {h : Header} (numbers : Header → Bool) (answer : Heade
   unfolding reportRungs
   report-missing e = refuses (reportRungs numbers) NoCount (λ h. Is (answer h)) o (no-number Done Done e)
 
--- ---- S2: on an accepted sheet the report of an entity that exists is a mask, which has exactly the states that are reached
+-- ---- S2: on an accepted sheet the report of an entity that exists is a mask, which has exactly the states that are reached, and their number
 
-pub record MaskIs (s : List ℤ) (h : Header) (n : ℕ) (a : Count) : Type 0 where
+pub record MaskIs (s : List ℤ) (h : Header) (n : ℕ) (a : Counted) : Type 0 where
   pub mask : ℕ
-  pub is : a ≡ Is mask
+  pub is : a ≡ IsCounted mask (statesIn mask)
   pub each : (q : ℕ) → Reached s h n q ↔ (inMask mask q ≡ true)
 
 pub reachable-is : (s : List ℤ) (e : ℤ) {h : Header} → opened s ≡ At h → exists e (h .entities) ≡ true → MaskIs s h (num e) (reachableAnswer s e)
+unfolding reportRungs scans
 reachable-is s e {h} o p =
     record {
       mask = reachable s h (num e);
-      is = report-exists s (λ h. exists e (h .entities)) (λ h. reachable s h (num e)) o p;
+      is =
+          climbs (reportRungs (λ h. exists e (h .entities))) NotCounted (λ h. IsCounted (reachable s h (num e)) (scans s h (num e))) o
+          (all-passed record { lengths = refl; numbers = p; facts = refl; states = refl });
       each = reached-in-mask (opened-at s refl o .sheet) (num e) (ltb-true (num e) (h .entities) p);
     }
 

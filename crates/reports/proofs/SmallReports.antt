@@ -10,7 +10,8 @@ use native.Mathlib.Omega.{arith}
 use borrow.Author.Tests.{ltb-true}
 use Rattle.signed.specs.Words.{num}
 use Rattle.answer.specs.declared.Count.the-variants.{Is, Refused as NoCount}
-use Rattle.answer.specs.Inner.{SmallCount}
+use Rattle.answer.specs.declared.Counted.the-variants.{Is as IsCounted, Refused as NotCounted}
+use Rattle.answer.specs.Inner.{SmallCount, SmallCounted}
 use Rattle.layout.specs.declared.Header.{Header}
 use Rattle.layout.specs.Tables.{flow}
 use Rattle.records.specs.Accepted.{Accepted}
@@ -24,8 +25,8 @@ use Rattle.tree.proofs.SizeLaws.{size-small}
 use Rattle.depth.specs.Depth.{depth}
 use Rattle.walks.proofs.Ways.{way-start, paths-on}
 use Rattle.depth.proofs.Depths.{depth-short}
-use Rattle.reach.specs.Reached.{reachable}
-use Rattle.reach.proofs.Rounds.{mask-small}
+use Rattle.reach.specs.Reached.{reachable, scans}
+use Rattle.reach.proofs.Rounds.{mask-small, scans-few}
 use Rattle.causes.specs.Causes.{admissible, canCause}
 use Rattle.ladder.specs.Ladder.{opened, exists}
 use Rattle.ladder.proofs.ClimbLaws.{opened-at}
@@ -61,8 +62,12 @@ depth-few s h a f l = rw (paths-on s h a f l) (depth-short s h a (flow s h f .w0
 pub states-small : (s : List ℤ) (e : ℤ) → SmallCount (statesAnswer s e)
 states-small s e = small-on states (λ h. h .entities) s e (λ h a n l. omega (arith, entity-ok a n l .few))
 
-pub reachable-small : (s : List ℤ) (e : ℤ) → SmallCount (reachableAnswer s e)
-reachable-small s e = small-on reachable (λ h. h .entities) s e (λ h a n l. omega (arith, mask-small s h n))
+pub reachable-small : (s : List ℤ) (e : ℤ) → SmallCounted (reachableAnswer s e)
+unfolding reportRungs
+reachable-small s e =
+    call-small SmallCounted NotCounted (λ h. IsCounted (reachable s h (num e)) (scans s h (num e))) (λ r p. p) s
+    (reportRungs (λ h. exists e (h .entities))) (λ h e. rungs-small _ _ _ _ tt tt)
+    (λ h p. (omega (arith, mask-small s h (num e)), omega (arith, scans-few s h (num e))))
 
 pub admissible-small : (s : List ℤ) (e q p o : ℤ) → SmallCount (admissibleAnswer s e q p o)
 admissible-small s e q p o = small s _ _ (λ h a x. bit-small (admissible s h (num e) (num q) (num p) (num o)))

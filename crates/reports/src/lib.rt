@@ -1,13 +1,14 @@
-// The reports S1 to S5 and S7, for any input: each climbs the ladder of refusals, then answers one number.
+// The reports S1 to S5 and S7, for any input: each climbs the ladder of refusals, then answers a number, and S2 a second one.
 ghost use mathlib.Core.Path.{_≡_};
 ghost use Prim.Native.Nat.{_<_};
 ghost use Rattle.records.specs.Accepted.{Accepted};
 ghost use Rattle.signed.specs.Words.{num as wordNumber};
 ghost use Rattle.calls.specs.Reports.{reportClimb, reported, stateExists, yesNo, admissibleNumbers, causeNumbers};
-ghost use Rattle.calls.specs.Reports.{admissibleAnswer, canCauseAnswer, rulesAnswer};
+ghost use Rattle.calls.specs.Reports.{reachableAnswer, admissibleAnswer, canCauseAnswer, rulesAnswer};
 ghost use Rattle.ladder.specs.Ladder.{exists};
 ghost use Rattle.reports.specs.Figures.{size, figure};
 use answer::Count;
+use answer::Counted;
 use depth::longest;
 use ladder::Climbed;
 use ladder::exists;
@@ -21,17 +22,15 @@ use layout::Node;
 use layout::Operation;
 use layout::Persona;
 use layout::Rule;
-use reach::reachable;
 use records::outcomes_of;
 use records::states_of;
 use records::stratum_of;
 use signed::num;
 use tree::tree_size;
 
-// The reports that take one number, that of a record.
+// The reports that take one number, that of a record, and answer one.
 pub enum Report {
     States,
-    Reachable,
     Stratum,
     Outcomes,
     TreeSize,
@@ -44,7 +43,6 @@ fn size(h: Header, t: Report) -> usize
 {
     match t {
         Report::States => h.entities,
-        Report::Reachable => h.entities,
         Report::Stratum => h.rules,
         Report::Outcomes => h.operations,
         Report::TreeSize => h.nodes,
@@ -59,7 +57,6 @@ fn figure(s: &[i64], h: Header, t: Report, n: usize) -> usize
 {
     match t {
         Report::States => states_of(s, h, Entity(n)),
-        Report::Reachable => reachable(s, h, Entity(n)),
         Report::Stratum => stratum_of(s, h, Rule(n)),
         Report::Outcomes => outcomes_of(s, h, Operation(n)),
         Report::TreeSize => tree_size(s, h, Node(n)),
@@ -80,13 +77,29 @@ fn find(s: &[i64], t: Report, x: i64) -> Climbed
     }
 }
 
-// S1, S2, S5 and S7: a report that takes one number.
+// S1, S5 and S7: a report that takes one number.
 pub fn look_up(s: &[i64], t: Report, x: i64) -> Count
     ensures { λ r. ⌜ r ≡ reported (now (s .entry)) (λ h. exists x (size h t)) (λ h. figure (now (s .entry)) h t (wordNumber x)) ⌝ }
 {
     match find(s, t, x) {
         Climbed::Stopped(r) => Count::Refused(r),
         Climbed::At(h) => Count::Is(figure(s, h, t, num(x))),
+    }
+}
+
+// S2: the mask of the states reached, and its scans. It takes an entity, as S1 does.
+pub fn reachable(s: &[i64], entity: i64) -> Counted
+    ensures { λ r. ⌜ r ≡ reachableAnswer (now (s .entry)) entity ⌝ }
+{
+    match find(s, Report::States, entity) {
+        Climbed::Stopped(r) => Counted::Refused(r),
+        Climbed::At(h) => {
+            let found = reach::reachable(s, h, Entity(num(entity)));
+            Counted::Is {
+                value: found.mask,
+                count: found.scans,
+            }
+        }
     }
 }
 

@@ -10,7 +10,7 @@ use lib.Seq.{take-suc-set, length-take-le}
 use native.Mathlib.Numerals.{add-one}
 use native.Mathlib.Omega.{arith}
 use borrow.Author.Tests.{not-true, not-false}
-use Rattle.answer.specs.declared.Walk.the-variants.{Path as Walked}
+use Rattle.answer.specs.declared.Counted.the-variants.{Is as Walked}
 use Rattle.layout.specs.declared.Header.{Header}
 use Rattle.layout.specs.Tables.{flow}
 use Rattle.records.specs.Flows.{stepsEnd, flowOf}

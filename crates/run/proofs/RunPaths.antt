@@ -9,7 +9,7 @@ use lib.IntN.{ℤ}
 use lib.ListN.{length, replicate, length-replicate}
 use native.Mathlib.Omega.{arith}
 use Rattle.tables.proofs.Bools.{bool-cases}
-use Rattle.answer.specs.Inner.{SmallWalk}
+use Rattle.answer.specs.Inner.{SmallCounted}
 use Rattle.layout.specs.declared.Header.{Header}
 use Rattle.operation.specs.declared.Wanted.{Wanted}
 use Rattle.operation.specs.Inner.{StatesIn}
@@ -97,7 +97,7 @@ module _ {s : List ℤ} {h : Header} {facts verdicts states : List ℤ} {f : ℕ
         record { finished = e; listed = trail-listed (u .lent) t e; answers = trail-arrives t e; within = trail-short (u .lent) t e }
 
     -- its answer fits a signed word
-    pub run-small : SmallWalk (ranWalk s h facts verdicts states f words)
+    pub run-small : SmallCounted (ranWalk s h facts verdicts states f words)
     run-small =
         let d = done (wantedAt s h f words) in
         let z =

@@ -6,7 +6,7 @@ use mathlib.Core.List.{List}
 use Prim.Native.Nat.{ℕ, _-_, _≤_, _<_}
 use lib.IntN.{ℤ}
 use lib.ListN.{length}
-use Rattle.answer.specs.declared.Walk.{Walk}
+use Rattle.answer.specs.declared.Counted.{Counted}
 use Rattle.layout.specs.declared.Header.{Header}
 use Rattle.layout.specs.Tables.{step}
 use Rattle.records.specs.Accepted.{Accepted}
@@ -34,7 +34,7 @@ pub record Runnable (s : List ℤ) (h : Header) (facts verdicts states : List �
 
 -- demand 3, of a run: it "takes the routes of one of these paths and answers that path with its length and terminal"; and it is finished
 -- within as many steps as the flow has
-pub record Taken (s : List ℤ) (h : Header) (f : ℕ) (t : Running) (answer : Walk) : Type 0 where
+pub record Taken (s : List ℤ) (h : Header) (f : ℕ) (t : Running) (answer : Counted) : Type 0 where
   pub finished : t .walker .finished ≡ true
   pub listed : Among (paths s h f) (t .path)
   pub answers : answer ≡ walkOf s h (t .path)

@@ -9,7 +9,7 @@ use lib.Dec.{eqb}
 use Rattle.tables.specs.Scan.{allBelow}
 use Rattle.answer.specs.declared.Count.{Count}
 use Rattle.answer.specs.declared.Count.the-variants.{Is, Refused}
-use Rattle.answer.specs.declared.Walk.{Walk}
+use Rattle.answer.specs.declared.Counted.{Counted}
 use Rattle.layout.specs.declared.Header.{Header}
 use Rattle.layout.specs.Tables.{step, kindOf, nodeNamed, personaNamed, operationNamed}
 use Rattle.records.specs.Operations.{outcomes}
@@ -113,7 +113,7 @@ ran s h facts verdicts states f wants = runOn s h facts verdicts wants (stepsOf 
 -- ---- what is answered and left, of the words that are lent
 
 -- the terminal and the path's length
-unfoldable pub ranWalk : List ℤ → Header → List ℤ → List ℤ → List ℤ → ℕ → List ℤ → Walk
+unfoldable pub ranWalk : List ℤ → Header → List ℤ → List ℤ → List ℤ → ℕ → List ℤ → Counted
 ranWalk s h facts verdicts states f words = arrived (ran s h facts verdicts states f (wantedAt s h f words) .walker)
 
 -- the path, and 0 past it

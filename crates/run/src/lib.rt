@@ -19,7 +19,7 @@ ghost use Rattle.run.specs.Memo.{Memo};
 ghost use Rattle.run.specs.Runs.{performs, operationAt, personaAt, nodeAt, outcomesAt, goodWords, answerRoute, branchRoute, routeTaken, statesThen, ranWalk, ranPath, ranStates};
 ghost use Rattle.run.specs.Inner.{Steppable, Runnable};
 use answer::Count;
-use answer::Walk;
+use answer::Counted;
 use attempt::attempt_known;
 use attempt::precondition_holds;
 use layout::Flow;
@@ -203,7 +203,7 @@ pub fn run(
     flow: Flow,
     wanted: &[i64],
     path: &mut [u16],
-) -> Walk
+) -> Counted
     requires { ⌜ Runnable (now s) h (now facts) (now verdicts) (now states) (flow .0) (now path) ⌝ }
     requires { ⌜ length (now wanted) ≡ stepsOf (now s) h (flow .0) ⌝ }
     ensures { λ r. ⌜ r ≡ ranWalk (now (s .entry)) h (now (facts .entry)) (now (verdicts .entry)) (now (states .entry)) (flow .0) (now (wanted .entry)) ⌝ }
@@ -232,8 +232,8 @@ pub fn run(
         w = w.take(s, h, route);
     }
     clear(path, w.length);
-    Walk::Path {
-        terminal: w.step,
-        length: w.length,
+    Counted::Is {
+        value: w.step,
+        count: w.length,
     }
 }

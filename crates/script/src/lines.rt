@@ -4,9 +4,9 @@ ghost use mathlib.Core.Path.{_≡_};
 ghost use mathlib.Core.Bool.{true};
 ghost use Rattle.signed.specs.Words.{bounded};
 use answer::Count;
+use answer::Counted;
 use answer::Refusal;
 use answer::Status;
-use answer::Walk;
 use signed::bounded;
 use signed::minus;
 use signed::num;
@@ -56,11 +56,11 @@ fn refused(r: Refusal) {
     field(0);
 }
 
-fn done(value: usize, length: usize) {
+fn done(value: usize, count: usize) {
     field(0);
     field(0);
     field(value);
-    field(length);
+    field(count);
 }
 
 pub fn status(case: usize, s: Status) {
@@ -79,11 +79,11 @@ pub fn count(case: usize, c: Count) {
     }
 }
 
-pub fn walk(case: usize, w: Walk) {
+pub fn counted(case: usize, c: Counted) {
     number(case);
-    match w {
-        Walk::Path { terminal, length } => done(terminal, length),
-        Walk::Refused(r) => refused(r),
+    match c {
+        Counted::Is { value, count } => done(value, count),
+        Counted::Refused(r) => refused(r),
     }
 }
 

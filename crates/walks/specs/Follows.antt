@@ -6,8 +6,8 @@ use Prim.Native.Nat.{ℕ, _-_}
 use lib.IntN.{ℤ}
 use lib.ListN.{length, replicate}
 use lib.Dec.{eqb}
-use Rattle.answer.specs.declared.Walk.{Walk}
-use Rattle.answer.specs.declared.Walk.the-variants.{Path as Walked}
+use Rattle.answer.specs.declared.Counted.{Counted}
+use Rattle.answer.specs.declared.Counted.the-variants.{Is as Walked}
 use Rattle.layout.specs.declared.Header.{Header}
 use Rattle.walks.specs.Paths.{terminal, paths, path}
 
@@ -34,7 +34,7 @@ following [] b = Absent
 following (p ∷ ps) b = elim (begins p b) [ true ↦ headOf ps | false ↦ following ps b ]
 
 -- a path's answer: its terminal and its length
-abbrev pub walkOf : List ℤ → Header → List ℕ → Walk
+abbrev pub walkOf : List ℤ → Header → List ℕ → Counted
 walkOf s h p = Walked (terminal s h p) (length p)
 
 -- the buffer with a path at its start and 0 past it

@@ -4,8 +4,8 @@ use mathlib.Core.Bool.{false}
 use mathlib.Core.List.{List}
 use Prim.Native.Nat.{ℕ, _+_, _-_}
 use lib.IntN.{ℤ}
-use Rattle.answer.specs.declared.Walk.{Walk}
-use Rattle.answer.specs.declared.Walk.the-variants.{Path as Walked}
+use Rattle.answer.specs.declared.Counted.{Counted}
+use Rattle.answer.specs.declared.Counted.the-variants.{Is as Walked}
 use Rattle.layout.specs.declared.Header.{Header}
 use Rattle.layout.specs.Tables.{flow, stepStartOf}
 use Rattle.walks.specs.declared.Walker.{Walker}
@@ -20,5 +20,5 @@ unfoldable pub taken : List ℤ → Header → Walker → ℕ → Walker
 taken s h w r = record { step = target s h r; length = w .length + 1; finished = ends s h r }
 
 -- the answer of a walk that is finished: the terminal, and how many routes were taken
-abbrev pub arrived : Walker → Walk
+abbrev pub arrived : Walker → Counted
 arrived w = Walked (w .step) (w .length)

@@ -1,7 +1,7 @@
 //! `bench [MILLISECONDS]`: each call on the largest sheet, an eighth of it, the escrow example, and 01's sheet.
 //!
-//! At last runs that are hard where a precondition is worked out again for each step, and operations that are refused 11
-//! after every effect was looked at.
+//! At last runs that are hard where a precondition is worked out again for each step, operations that are refused 11
+//! after every effect was looked at, and S2 of sheets with 32 entities and 512 transitions.
 //!
 //! The library and the reference are timed in turns in one process, the best of many rounds counts. Each case is
 //! timed for so many milliseconds (300 unless told). The answers are compared before.
@@ -34,6 +34,7 @@ struct Times {
 type Timed = (&'static str, usize, usize, Vec<(Case, Times)>);
 
 /// A sheet, and arguments that make each call work hard.
+#[derive(Default)]
 struct Desk {
     words: Vec<i64>,
     text: Vec<u8>,
@@ -123,12 +124,39 @@ fn main() {
         desk.states[entities as usize - 1] = 2;
         hard(Box::leak(Box::new(desk)), "operate", &format!("{entities} | {}", 16 * entities), time);
     }
+
+    println!("\n## Reachability: 32 entities, 512 transitions\n");
+    println!("S2 alone: the time of `reachable` less that of `states` on the same sheet.\n");
+    print!("| Sheet | Scans | Library, µs | Reference, µs | Ratio ");
+    println!("| S2 alone, library, µs | S2 alone, reference, µs |");
+    println!("|---|---:|---:|---:|---:|---:|---:|");
+    for (name, owners, turns) in [
+        ("every state to every state of two entities, entity by entity", 2, false),
+        ("the same, the two entities in turns", 2, true),
+        ("a ring of each entity's states, entity by entity", 32, false),
+        ("the same, the entities in turns", 32, true),
+    ] {
+        let words = reach_sheet(owners, turns).words();
+        let desk = Box::leak(Box::new(Desk { words, entity: owners - 1, ..Desk::default() }));
+        let answer = reference::reachable(&desk.words, desk.entity);
+        assert_eq!((answer.value, answer.count), (65_535, 16), "{name}");
+        let [states, reach] = ["states", "reachable"].map(|call| times_of(desk, call, time));
+        let ratio = reach.library / reach.reference;
+        print!("| {name} | {} | {:.2} | {:.2} ", answer.count, reach.library / 1e3, reach.reference / 1e3);
+        let alone = ((reach.library - states.library) / 1e3, (reach.reference - states.reference) / 1e3);
+        println!("| {ratio:.2} | {:.2} | {:.2} |", alone.0, alone.1);
+    }
+}
+
+/// The times of one call of a desk.
+fn times_of(desk: &'static Desk, call: &str, time: Duration) -> Times {
+    let mut case = cases(desk).into_iter().find(|case| case.name == call).expect("it is among the calls");
+    measure(&mut case, time)
 }
 
 /// A line of one call of a desk.
 fn hard(desk: &'static Desk, call: &str, line: &str, time: Duration) {
-    let mut case = cases(desk).into_iter().find(|case| case.name == call).expect("it is among the calls");
-    let times = measure(&mut case, time);
+    let times = times_of(desk, call, time);
     let ratio = times.library / times.reference;
     println!("| {line} | {:.2} | {:.2} | {ratio:.2} |", times.library / 1e3, times.reference / 1e3);
 }
@@ -160,6 +188,20 @@ fn blocked_sheet(entities: i64) -> Sheet {
     add(FLOWS, &[0, 1]);
     add(STEPS, &[0, 0, 0, 0, 9]);
     (0..9).for_each(|_| add(ROUTES, &[1, 0]));
+    sheet
+}
+
+/// 32 entities of 16 states, and 512 transitions: on the first two entities, every state to every state, or on all 32,
+/// a ring of the states of each. They stand entity by entity, or the entities take turns.
+fn reach_sheet(owners: i64, turns: bool) -> Sheet {
+    let mut sheet = Sheet { personas: 0, tables: Default::default() };
+    (0..32).for_each(|_| add(&mut sheet, ENTITIES, &[16, 0]));
+    let each = 512 / owners;
+    for k in 0..512 {
+        let (entity, own) = if turns { (k % owners, k / owners) } else { (k / each, k % each) };
+        let [from, to] = if owners == 2 { [own / 16, own % 16] } else { [own, (own + 1) % 16] };
+        add(&mut sheet, TRANSITIONS, &[entity, from, to]);
+    }
     sheet
 }
 
@@ -262,8 +304,8 @@ impl Desk {
             let flow = random.below(sheet.count(FLOWS)) as i64;
             let wanted = wanted_of(sheet, flow as usize, &mut random);
             let run = reference::run(&words, &tried, &given, &mut states.clone(), flow, &wanted, &mut vec![0; steps]);
-            if run.length > longest {
-                (values, run_flow, run_wanted, longest) = (tried, flow, wanted, run.length);
+            if run.count > longest {
+                (values, run_flow, run_wanted, longest) = (tried, flow, wanted, run.count);
             }
         }
         let (mut persona, mut operation, mut wanted) = (0, 0, -1);
@@ -322,7 +364,7 @@ macro_rules! case {
 macro_rules! numbers {
     ($call:expr) => {{
         let answer = $call;
-        [answer.refusal, answer.place, answer.value, answer.length]
+        [answer.refusal, answer.place, answer.value, answer.count]
     }};
 }
 

@@ -2,7 +2,7 @@
 
 use crate::calls::{Call, Reached};
 use crate::random::Random;
-use fernpocket::{raw, Path, Refusal, Terminal};
+use fernpocket::{raw, Path, Reach, Refusal, Terminal};
 use reference::Answer;
 use std::fmt::Debug;
 
@@ -105,7 +105,7 @@ impl Comparer {
         if !call.possible().contains(&answer.refusal) {
             return fault("a refusal that 01 does not let the call give", "reference", answer, buffers);
         }
-        if answer.refusal != 0 && (*buffers != before || answer.value != 0 || answer.length != 0) {
+        if answer.refusal != 0 && (*buffers != before || answer.value != 0 || answer.count != 0) {
             return fault("a refused call left a trace", "reference", answer, buffers);
         }
         let mut left = before.clone();
@@ -153,8 +153,8 @@ pub fn show(words: &[i64]) -> String {
 }
 
 fn numbers(answer: raw::Answer) -> Answer {
-    let raw::Answer { refusal, place, value, length } = answer;
-    Answer { refusal, place, value, length }
+    let raw::Answer { refusal, place, value, count } = answer;
+    Answer { refusal, place, value, count }
 }
 
 /// An argument of the wrapper, where it is one.
@@ -164,35 +164,35 @@ pub fn natural(number: i64) -> Option<usize> {
 
 /// What a wrapper's answers are as four numbers.
 pub trait Numbers {
-    fn value_and_length(self) -> (i64, i64);
+    fn value_and_count(self) -> (i64, i64);
 }
 
 impl Numbers for () {
-    fn value_and_length(self) -> (i64, i64) {
+    fn value_and_count(self) -> (i64, i64) {
         (0, 0)
     }
 }
 
 impl Numbers for usize {
-    fn value_and_length(self) -> (i64, i64) {
+    fn value_and_count(self) -> (i64, i64) {
         (self as i64, 0)
     }
 }
 
-impl Numbers for u16 {
-    fn value_and_length(self) -> (i64, i64) {
-        (self as i64, 0)
+impl Numbers for Reach {
+    fn value_and_count(self) -> (i64, i64) {
+        (self.mask as i64, self.scans as i64)
     }
 }
 
 impl Numbers for bool {
-    fn value_and_length(self) -> (i64, i64) {
+    fn value_and_count(self) -> (i64, i64) {
         (self as i64, 0)
     }
 }
 
 impl Numbers for Path {
-    fn value_and_length(self) -> (i64, i64) {
+    fn value_and_count(self) -> (i64, i64) {
         let terminal = match self.terminal {
             Terminal::Success => 0,
             Terminal::Failure => 1,
@@ -205,9 +205,9 @@ impl Numbers for Path {
 pub fn four(result: Result<impl Numbers, Refusal>) -> Answer {
     match result {
         Ok(answer) => {
-            let (value, length) = answer.value_and_length();
-            Answer { refusal: 0, place: 0, value, length }
+            let (value, count) = answer.value_and_count();
+            Answer { refusal: 0, place: 0, value, count }
         }
-        Err(refusal) => Answer { refusal: refusal.number() as i64, place: refusal.place() as i64, value: 0, length: 0 },
+        Err(refusal) => Answer { refusal: refusal.number() as i64, place: refusal.place() as i64, value: 0, count: 0 },
     }
 }

@@ -129,6 +129,13 @@ fn note(seen: &mut Seen, sheet: &Sheet) {
     seen.note("a transition twice", transitions.windows(2).any(|pair| pair[0] == pair[1]));
     seen.note("an entity of 16 states", sheet.tables[ENTITIES].iter().any(|entity| entity[0] == 16));
     seen.note("an entity of one state", sheet.tables[ENTITIES].iter().any(|entity| entity[0] == 1));
+    let words = sheet.words();
+    for (entity, &[states, initial, ..]) in sheet.tables[ENTITIES].iter().enumerate() {
+        let reached = reference::reachable(&words, entity as i64).value.count_ones() as i64;
+        seen.note("an entity of which some states are reached, and others not", 1 < reached && reached < states);
+        seen.note("an entity of 8 states or more that are all reached", 8 <= states && reached == states);
+        seen.note("an entity of which states are reached from another than 0", 0 < initial && 1 < reached);
+    }
     for &[mask, _, first, count, outcomes, ..] in &sheet.tables[OPERATIONS] {
         let effects = &sheet.tables[EFFECTS][first as usize..(first + count) as usize];
         seen.note(format!("an operation of {outcomes} outcomes"), true);
@@ -167,9 +174,8 @@ fn note(seen: &mut Seen, sheet: &Sheet) {
         seen.note(format!("count {kind} is 0"), sheet.count(kind) == 0);
         seen.note(format!("count {kind} is its largest"), sheet.count(kind) == limit as usize);
     }
-    let size = sheet.words().len();
     for power in 5..15 {
-        seen.note(format!("about 2^{power} words"), (size >> power) == 1);
+        seen.note(format!("about 2^{power} words"), (words.len() >> power) == 1);
     }
 }
 

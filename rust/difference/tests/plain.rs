@@ -56,7 +56,7 @@ fn listings_are_all_paths_in_order() {
             let mut buffer = vec![9; steps + random.below(3)];
             let mut answer = reference::first(&words, flow as i64, &mut buffer);
             for (path, terminal) in &all {
-                assert_eq!(answer, Answer { value: *terminal, length: path.len() as i64, ..Answer::default() });
+                assert_eq!(answer, Answer { value: *terminal, count: path.len() as i64, ..Answer::default() });
                 assert_eq!(&buffer[..path.len()], &path[..]);
                 assert!(buffer[path.len()..].iter().all(|&route| route == 0));
                 listed += 1;
@@ -184,7 +184,7 @@ fn verdicts_runs_and_operations_by_the_definition() {
             };
             let (mut left, mut buffer) = (start.clone(), vec![5; steps]);
             let answer = reference::run(&words, &facts, &given, &mut left, flow as i64, &wanted, &mut buffer);
-            assert_eq!(answer, Answer { value: terminal, length: path.len() as i64, ..Answer::default() });
+            assert_eq!(answer, Answer { value: terminal, count: path.len() as i64, ..Answer::default() });
             path.resize(steps, 0);
             assert_eq!((left, buffer), (states, path));
             runs += 1;
@@ -252,7 +252,7 @@ fn sizes_and_reached_states_by_the_definition() {
             assert_eq!(reference::tree_size(&words, node as i64).value, sizes[node]);
         }
         for (entity, record) in sheet.tables[ENTITIES].iter().enumerate() {
-            let mut mask = 1 << record[1];
+            let mut mask = 1i64 << record[1];
             for _ in 0..16 {
                 for &[of, from, to, ..] in &sheet.tables[TRANSITIONS] {
                     if of == entity as i64 && mask >> from & 1 == 1 {
@@ -260,7 +260,9 @@ fn sizes_and_reached_states_by_the_definition() {
                     }
                 }
             }
-            assert_eq!(reference::reachable(&words, entity as i64).value, mask);
+            // A scan for each state of the mask.
+            let expected = Answer { value: mask, count: mask.count_ones() as i64, ..Answer::default() };
+            assert_eq!(reference::reachable(&words, entity as i64), expected);
         }
     }
 }

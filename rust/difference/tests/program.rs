@@ -57,7 +57,7 @@ fn expected(text: &[u8]) -> (String, &'static str) {
             if answer.refusal != 0 {
                 break;
             }
-            let routes: String = path[..answer.length as usize].iter().map(|route| format!("\t{route}")).collect();
+            let routes: String = path[..answer.count as usize].iter().map(|route| format!("\t{route}")).collect();
             lines += &format!("{flow}\t{}{routes}\n", answer.value);
             answer = reference::next(&words, flow, &mut path);
         }

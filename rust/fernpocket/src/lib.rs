@@ -68,6 +68,15 @@ pub struct Path {
     pub length: usize,
 }
 
+/// What an entity reaches from its initial state.
+#[derive(Clone, Copy, Debug, PartialEq, Eq, Hash)]
+pub struct Reach {
+    /// The states reached; bit s is state s.
+    pub mask: u16,
+    /// How often the transitions were scanned: once for each state of the mask.
+    pub scans: usize,
+}
+
 fn refusal(answer: Answer, wanted: Option<usize>) -> Refusal {
     Refusal::from_numbers(answer.refusal, answer.place as usize, wanted).expect("a refusal has a number of 1 to 16")
 }
@@ -94,7 +103,7 @@ fn path_of(answer: Answer) -> Result<Path, Refusal> {
             1 => Terminal::Failure,
             _ => Terminal::Escalation,
         },
-        length: answer.length as usize,
+        length: answer.count as usize,
     })
 }
 
@@ -329,13 +338,16 @@ pub fn states(sheet: &[i64], entity: usize) -> Result<usize, Refusal> {
     value(raw::states(sheet, number(entity)))
 }
 
-/// S2: the mask of the states that an entity reaches from its initial one; bit s is state s.
+/// S2: the mask of the states that an entity reaches from its initial one, and the scans that found it.
 ///
 /// ```
-/// assert_eq!(fernpocket::reachable(&fernpocket::example::sheet(), 0), Ok(0b111));
+/// use fernpocket::{example, reachable, Reach};
+///
+/// assert_eq!(reachable(&example::sheet(), 0), Ok(Reach { mask: 0b111, scans: 3 }));
 /// ```
-pub fn reachable(sheet: &[i64], entity: usize) -> Result<u16, Refusal> {
-    value(raw::reachable(sheet, number(entity))).map(|mask| mask as u16)
+pub fn reachable(sheet: &[i64], entity: usize) -> Result<Reach, Refusal> {
+    accepted(raw::reachable(sheet, number(entity)))
+        .map(|answer| Reach { mask: answer.value as u16, scans: answer.count as usize })
 }
 
 /// S3a: may the persona perform the operation with the entity in this state, as far as the sheet alone tells?

@@ -4,14 +4,14 @@
 #[repr(C)]
 #[derive(Clone, Copy, Debug, Default, PartialEq, Eq)]
 pub struct Answer {
-    /// 0: the call went through; else the refusal number, and value and length are 0.
+    /// 0: the call went through; else the refusal number, and value and count are 0.
     pub refusal: i64,
     /// The refusal's place.
     pub place: i64,
     /// The call's answer; 0 where it has none.
     pub value: i64,
-    /// The length of a path that was answered; else 0.
-    pub length: i64,
+    /// How many: a path's routes, S2's scans; 0 where the call counts nothing.
+    pub count: i64,
 }
 
 #[rustfmt::skip]

@@ -1,6 +1,6 @@
 //! Documents 01 and 02 in safe Rust, written from the documents and the C header alone.
 //!
-//! Each public function answers the four numbers of the C header: refusal, place, value, length.
+//! Each public function answers the four numbers of the C header: refusal, place, value, count.
 //! A lent slice is written only once nothing can be refused any more.
 #![forbid(unsafe_code)]
 
@@ -26,7 +26,7 @@ pub struct Answer {
     pub refusal: i64,
     pub place: i64,
     pub value: i64,
-    pub length: i64,
+    pub count: i64,
 }
 
 /// A refusal: its number and its place.
@@ -54,14 +54,19 @@ struct Ending {
 }
 
 fn refusal(refused: Refused) -> Answer {
-    Answer { refusal: refused.number, place: refused.place as i64, value: 0, length: 0 }
+    Answer { refusal: refused.number, place: refused.place as i64, value: 0, count: 0 }
+}
+
+/// An answer with a value and a count.
+fn counted(call: impl FnOnce() -> Result<(i64, usize), Refused>) -> Answer {
+    match call() {
+        Ok((value, count)) => Answer { value, count: count as i64, ..Answer::default() },
+        Err(refused) => refusal(refused),
+    }
 }
 
 fn value(call: impl FnOnce() -> Result<usize, Refused>) -> Answer {
-    match call() {
-        Ok(value) => Answer { value: value as i64, ..Answer::default() },
-        Err(refused) => refusal(refused),
-    }
+    counted(|| call().map(|value| (value as i64, 0)))
 }
 
 fn plain(call: impl FnOnce() -> Result<(), Refused>) -> Answer {
@@ -69,10 +74,7 @@ fn plain(call: impl FnOnce() -> Result<(), Refused>) -> Answer {
 }
 
 fn ending(call: impl FnOnce() -> Result<Ending, Refused>) -> Answer {
-    match call() {
-        Ok(end) => Answer { value: end.terminal, length: end.length as i64, ..Answer::default() },
-        Err(refused) => refusal(refused),
-    }
+    counted(|| call().map(|end| (end.terminal, end.length)))
 }
 
 /// Refusal 4 unless every given length is the wanted one.
@@ -220,12 +222,13 @@ pub fn states(sheet: &[i64], entity: i64) -> Answer {
     })
 }
 
-/// S2: the mask of the states reached from the initial one.
+/// S2: the mask of the states reached from the initial one. The count is of the scans.
 pub fn reachable(sheet: &[i64], entity: i64) -> Answer {
-    value(|| {
+    counted(|| {
         let sheet = check_sheet(sheet)?;
         let entity = exists(entity, sheet.entities.len())?;
-        Ok(report::reachable(&sheet, entity))
+        let (mask, scans) = report::reachable(&sheet, entity);
+        Ok((mask as i64, scans))
     })
 }
 

@@ -4,8 +4,9 @@ use crate::check::Sheet;
 use crate::operation::{permits, precondition};
 use crate::tables::{Record, Target};
 
-/// S2: the mask of the states reached from the initial one by zero or more declared transitions.
-pub fn reachable(sheet: &Sheet, entity: usize) -> usize {
+/// S2: the mask of the states reached from the initial one by zero or more declared transitions, and the scans: how
+/// many states were taken up, each once, to see where its transitions lead.
+pub fn reachable(sheet: &Sheet, entity: usize) -> (usize, usize) {
     let mut steps = [0usize; 16];
     for [of, from, to, ..] in sheet.transitions {
         if *of == entity as i64 {
@@ -14,12 +15,14 @@ pub fn reachable(sheet: &Sheet, entity: usize) -> usize {
     }
     let mut reached = 1usize << sheet.entities[entity][1];
     let mut fresh = reached;
+    let mut scans = 0;
     while fresh != 0 {
         let state = fresh.trailing_zeros() as usize;
+        scans += 1;
         fresh = (fresh | steps[state] & !reached) & !(1 << state);
         reached |= steps[state];
     }
-    reached
+    (reached, scans)
 }
 
 /// Does the effect start from this state of this entity?

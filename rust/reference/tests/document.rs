@@ -24,12 +24,12 @@ const WHOLE: &str = "\
 1 2 0 0 0 0 0 0
 ";
 
-fn good(value: i64, length: i64) -> Answer {
-    Answer { refusal: 0, place: 0, value, length }
+fn good(value: i64, count: i64) -> Answer {
+    Answer { refusal: 0, place: 0, value, count }
 }
 
 fn refused(refusal: i64, place: i64) -> Answer {
-    Answer { refusal, place, value: 0, length: 0 }
+    Answer { refusal, place, value: 0, count: 0 }
 }
 
 fn words(text: &str) -> Vec<i64> {
@@ -75,8 +75,8 @@ fn listing(sheet: &[i64], flow: i64, room: usize) -> Vec<(i64, Vec<u16>)> {
     let mut buffer = vec![9999; room];
     let mut answer = first(sheet, flow, &mut buffer);
     while answer.refusal == 0 {
-        assert!(buffer[answer.length as usize..].iter().all(|&route| route == 0));
-        paths.push((answer.value, buffer[..answer.length as usize].to_vec()));
+        assert!(buffer[answer.count as usize..].iter().all(|&route| route == 0));
+        paths.push((answer.value, buffer[..answer.count as usize].to_vec()));
         answer = next(sheet, flow, &mut buffer);
     }
     let last = &paths.last().unwrap().1;
@@ -108,7 +108,7 @@ fn p2_to_p4_runs() {
 
 #[test]
 fn p5_p6_reports() {
-    assert_eq!(reachable(&whole(), 0), good(7, 0));
+    assert_eq!(reachable(&whole(), 0), good(7, 3));
     assert_eq!(depth(&whole(), 0), good(2, 0));
 }
 
@@ -1179,4 +1179,67 @@ fn sizes_of_trees_with_money_and_durations() {
     for (node, size) in [1, 1, 3, 1, 5, 1, 1].into_iter().enumerate() {
         assert_eq!(tree_size(&sheet, node as i64), good(size, 0));
     }
+}
+
+/// S2 of each entity of a sheet of these entities and transitions alone.
+fn reached(entities: &[&[i64]], transitions: &[&[i64]]) -> Vec<Answer> {
+    let sheet = sheet(0, [&[], &[], &[], entities, transitions, &[], &[], &[], &[], &[]]);
+    for entity in [i64::MIN, -1, entities.len() as i64, i64::MAX] {
+        assert_eq!(reachable(&sheet, entity), refused(5, 0));
+    }
+    (0..entities.len() as i64).map(|entity| reachable(&sheet, entity)).collect()
+}
+
+#[test]
+fn scans_of_the_states_that_are_found() {
+    // One state: without transitions, and with one to itself, twice.
+    assert_eq!(reached(&[&[1, 0]], &[]), [good(1, 1)]);
+    assert_eq!(reached(&[&[1, 0]], &[&[0, 0, 0], &[0, 0, 0]]), [good(1, 1)]);
+    // To itself, there twice, and back: 0 and 1 are found once each.
+    let and_back: [&[i64]; 5] = [&[0, 0, 0], &[0, 0, 1], &[0, 0, 1], &[0, 1, 1], &[0, 1, 0]];
+    assert_eq!(reached(&[&[2, 0]], &and_back), [good(0b11, 2)]);
+    // Two ways to 3.
+    assert_eq!(reached(&[&[4, 0]], &[&[0, 0, 1], &[0, 0, 2], &[0, 1, 3], &[0, 2, 3]]), [good(0b1111, 4)]);
+    // Nothing reaches 2, which leads to 0 and 3.
+    assert_eq!(reached(&[&[4, 0]], &[&[0, 2, 3], &[0, 0, 1], &[0, 2, 0]]), [good(0b11, 2)]);
+    assert_eq!(reached(&[&[16, 0]], &[]), [good(1, 1)]);
+    // The initial state is not 0: what leads to it is not reached.
+    assert_eq!(reached(&[&[4, 2]], &[&[0, 0, 1], &[0, 1, 2], &[0, 2, 3]]), [good(0b1100, 2)]);
+    assert_eq!(reached(&[&[4, 3]], &[&[0, 0, 1], &[0, 1, 2], &[0, 2, 3]]), [good(0b1000, 1)]);
+    assert_eq!(reached(&[&[4, 3]], &[&[0, 3, 0], &[0, 0, 3]]), [good(0b1001, 2)]);
+    assert_eq!(reached(&[&[16, 15]], &[&[0, 15, 15]]), [good(1 << 15, 1)]);
+}
+
+#[test]
+fn scans_of_a_chain_of_16_states() {
+    let chain: Vec<[i64; 3]> = (0..15).map(|state| [0, state, state + 1]).collect();
+    let forwards: Vec<&[i64]> = chain.iter().map(|transition| &transition[..]).collect();
+    let backwards: Vec<&[i64]> = forwards.iter().rev().copied().collect();
+    for declared in [forwards, backwards] {
+        assert_eq!(reached(&[&[16, 0]], &declared), [good(65_535, 16)]);
+        assert_eq!(reached(&[&[16, 8]], &declared), [good(65_280, 8)]);
+        assert_eq!(reached(&[&[16, 15]], &declared), [good(32_768, 1)]);
+    }
+}
+
+#[test]
+fn scans_follow_the_entity_s_own_transitions() {
+    // Three states each. 0: from 0 to 1 and no further. 1: a ring. 2: from 1 to 0. One after the other, and in turns.
+    let entities: [&[i64]; 3] = [&[3, 0], &[3, 0], &[3, 1]];
+    let [a, b, c, d, e, f]: [&[i64]; 6] = [&[0, 0, 1], &[0, 2, 0], &[1, 0, 1], &[1, 1, 2], &[1, 2, 0], &[2, 1, 0]];
+    let expected = [good(0b11, 2), good(0b111, 3), good(0b11, 2)];
+    assert_eq!(reached(&entities, &[a, b, c, d, e, f]), expected);
+    assert_eq!(reached(&entities, &[c, a, f, d, b, e]), expected);
+    assert_eq!(reached(&entities, &[e, b, f, d, a, c]), expected);
+}
+
+#[test]
+fn a_refused_report_counts_nothing() {
+    let mut sheet = whole();
+    assert_eq!(reachable(&sheet[..15], 0), refused(1, 0));
+    assert_eq!(reachable(&sheet, 1), refused(5, 0));
+    sheet[16 + 8 * 8 + 3] = 2;
+    assert_eq!(reachable(&sheet, 0), refused(3, 8));
+    sheet[16 + 8 * 6 + 3] = 1;
+    assert_eq!(reachable(&sheet, 0), refused(2, 0));
 }

@@ -1,7 +1,7 @@
 -- `fernpocket::fernpocket_run` meets its contract. Assumes nothing.
 use Rattle.flows.proofs.FlowCallLaws.{run-call-small}
 use Rattle.signed.proofs.Fit.{back}
-use Rattle.answer.specs.Answers.{walkAnswer}
+use Rattle.answer.specs.Answers.{countedAnswer}
 use mathlib.Core.Path.{ap, _∙_}
 use borrow.Author.Needs.{needs}
 use Rattle.fernpocket.proofs.fernpocket_run.Statement.{statement}
@@ -10,8 +10,8 @@ use Rattle.fernpocket.proofs.fernpocket_run.Tie as tie
 run-requires : tie.Need-run-requires
 run-requires c κs = search needs
 
-of-walk-requires : tie.Need-of-walk-requires
-of-walk-requires c κs =
+of-counted-requires : tie.Need-of-counted-requires
+of-counted-requires c κs =
     let at-run = c .before .before .before in
     let at-start = at-run .before .before .before .before in
     rw (at-run .run .ensures .0)
@@ -27,8 +27,8 @@ returns : tie.Need-returns
 returns c =
     let at-run = c .before .before .before .before in
     let at-start = at-run .before .before .before .before in (
-      c .of-walk .ensures
-          ∙ ap walkAnswer (rw (back (at-start .fits .flow))
+      c .of-counted .ensures
+          ∙ ap countedAnswer (rw (back (at-start .fits .flow))
           at (at-run .run .ensures .0)),
       (
         rw (back (at-start .fits .flow))
@@ -40,4 +40,4 @@ returns c =
 
 pub fernpocket-run-spec : {M : Type 1} → statement M
 fernpocket-run-spec =
-    tie.close (tie.spec run-requires of-walk-requires same-length same-length-2 returns)
+    tie.close (tie.spec run-requires of-counted-requires same-length same-length-2 returns)

@@ -1,16 +1,28 @@
 -- `reach::reachable` meets its contract: at the end all that is found is scanned. Assumes nothing.
 use mathlib.Core.Path.{_∙_}
 use Prim.Native.Nat.{_-_}
-use Rattle.reach.proofs.Exploring.{Exploring, scans, initial-is, initial-few, outset, still-long, fewer, onward, finished}
+use Rattle.reach.proofs.Exploring.{
+  Exploring,
+  statesScanned,
+  initial-is,
+  initial-few,
+  outset,
+  still-long,
+  fewer,
+  turns-few,
+  onward,
+  finished,
+  scans-are,
+}
 use borrow.Author.Needs.{needs}
 use Rattle.reach.proofs.reachable.Statement.{statement}
 use Rattle.reach.proofs.reachable.Tie as tie
 
 abbrev Inv-loop : tie.InvT-loop
-Inv-loop s h n found₀ scanned₀ state₀ found scanned state = Exploring s h (n .0) found scanned state
+Inv-loop s h n moves₀ found₀ scanned₀ scans₀ state₀ moves found scanned scans state = Exploring s h (n .0) moves found scanned state scans
 
 abbrev μ-loop : tie.MeasureT-loop
-μ-loop s h n found₀ scanned₀ state₀ found scanned state = 16 - scans scanned
+μ-loop s h n moves₀ found₀ scanned₀ scans₀ state₀ moves found scanned scans state = 16 - statesScanned scanned
 
 first-entity-requires : tie.Need-first-entity-requires Inv-loop μ-loop
 first-entity-requires c κs = search needs
@@ -41,11 +53,17 @@ array-write-scanned c = search needs
 slice-aggregate-scan : tie.Need-slice-aggregate-scan Inv-loop μ-loop
 slice-aggregate-scan c = search needs
 
+slice-aggregate-scan-2 : tie.Need-slice-aggregate-scan-2 Inv-loop μ-loop
+slice-aggregate-scan-2 c = search needs
+
 scan-requires : tie.Need-scan-requires Inv-loop μ-loop
 scan-requires c κs =
-    let at-loop = c .before .before in
-    let at-start = at-loop .before .before .before .before in
-    (at-start .pre .0, at-loop .loop .inv .found-long)
+    let at-loop-test = c .before .before in
+    let at-loop = at-loop-test .before in
+    let at-start = at-loop .before .before .before .before in (
+      (at-start .pre .0, at-loop-test .loop-test .taken, turns-few (at-start .pre .0) _ (at-start .pre .1) _ _ _ _ _ (at-loop .loop .inv)),
+      (at-loop .loop .inv .ready, at-loop .loop .inv .found-long),
+    )
 
 slice-aggregate-next-open : tie.Need-slice-aggregate-next-open Inv-loop μ-loop
 slice-aggregate-next-open c = search needs
@@ -55,26 +73,26 @@ slice-aggregate-next-open-2 c = search needs
 
 next-open-requires : tie.Need-next-open-requires Inv-loop μ-loop
 next-open-requires c κs =
-    let at-scan = c .before .before .before in
-    let at-loop = at-scan .before .before .before in
+    let at-scan = c .before .before .before .before in
+    let at-loop = at-scan .before .before .before .before in
     let at-start = at-loop .before .before .before .before in
-    (at-scan .scan .ensures .long, still-long (at-start .pre .0) _ (at-start .pre .1) _ _ _ (at-loop .loop .inv))
+    (at-scan .scan .ensures .1 .1 .long, still-long (at-start .pre .0) _ (at-start .pre .1) _ _ _ _ _ (at-loop .loop .inv) _)
 
 loop-less : tie.Need-loop-less Inv-loop μ-loop
 loop-less c =
-    let at-loop-test = c .before .before .before .before .before .before in
+    let at-loop-test = c .before .before .before .before .before .before .before .before in
     let at-loop = at-loop-test .before in
     let at-start = at-loop .before .before .before .before in
-    fewer (at-start .pre .0) _ (at-start .pre .1) _ _ _ (at-loop .loop .inv) (at-loop-test .loop-test .taken)
+    fewer (at-start .pre .0) _ (at-start .pre .1) _ _ _ _ _ (at-loop .loop .inv) (at-loop-test .loop-test .taken)
 
 loop-again : tie.Need-loop-again Inv-loop μ-loop
 loop-again c =
-    let at-scan = c .before .before .before .before in
-    let at-loop-test = at-scan .before .before in
+    let at-scan = c .before .before .before .before .before in
+    let at-loop-test = at-scan .before .before .before in
     let at-loop = at-loop-test .before in
     let at-start = at-loop .before .before .before .before in
-    onward (at-start .pre .0) _ (at-start .pre .1) _ _ _ (at-loop .loop .inv) _ _ (at-loop-test .loop-test .taken) (at-scan .scan .ensures)
-    (c .next-open .ensures)
+    onward (at-start .pre .0) _ (at-start .pre .1) _ _ _ _ _ (at-loop .loop .inv) _ _ _ _ (at-loop-test .loop-test .taken) (at-scan .scan .ensures .0)
+    (at-scan .scan .ensures .1 .0) (at-scan .scan .ensures .1 .1) (c .next-open .ensures)
 
 slice-aggregate-mask-of : tie.Need-slice-aggregate-mask-of Inv-loop μ-loop
 slice-aggregate-mask-of c = search needs
@@ -86,8 +104,10 @@ returns : tie.Need-returns Inv-loop μ-loop
 returns c =
     let at-loop-test = c .before .before in
     let at-loop = at-loop-test .before in
-    let at-start = at-loop .before .before .before .before in
-    c .mask-of .ensures ∙ finished (at-start .pre .0) _ (at-start .pre .1) _ _ _ (at-loop .loop .inv) (at-loop-test .loop-test .left)
+    let at-start = at-loop .before .before .before .before in (
+      c .mask-of .ensures ∙ finished (at-start .pre .0) _ (at-start .pre .1) _ _ _ _ _ (at-loop .loop .inv) (at-loop-test .loop-test .left),
+      scans-are (at-start .pre .0) _ (at-start .pre .1) _ _ _ _ _ (at-loop .loop .inv) (at-loop-test .loop-test .left),
+    )
 
 pub reachable-spec : {M : Type 1} → statement M
 reachable-spec =
@@ -102,6 +122,7 @@ reachable-spec =
     loop-holds
     array-write-scanned
     slice-aggregate-scan
+    slice-aggregate-scan-2
     scan-requires
     slice-aggregate-next-open
     slice-aggregate-next-open-2
