@@ -2,10 +2,10 @@
  * runs one flow from the initial states.
  *
  *   cc -Iinclude examples/c/desk.c target/staticlib/libfernpocket.a -o desk
- *   ./desk operate 3 0 0=500000 1=1 2=1 < examples/escrow.txt
+ *   ./desk operate 3 0 0=500000 1=1 2=1,1,1 < examples/escrow.txt
  *
- * Facts that are not given take their defaults. Answers go to stdout. Whatever is wrong is said on stderr, and nothing is
- * done then: the exit status is 1 where the library refuses, 2 where the command line or a file is at fault.
+ * Facts that are not given take their defaults; a list has none. Answers go to stdout. Whatever is wrong is said on stderr,
+ * and nothing is done then: the exit status is 1 where the library refuses, 2 where the command line or a file is at fault.
  */
 #include "fernpocket.h"
 
@@ -17,9 +17,13 @@
 
 enum { LISTED = 10 }; /* paths of each flow */
 
+/* A fact that is a list: its type, and the word of its record that has its largest length. */
+enum { LIST = 5, AT_LARGEST = 7 };
+
 static uint8_t text[FERNPOCKET_MOST_TEXT + 1]; /* one byte more, to see that a text is too long */
 static int64_t sheet[FERNPOCKET_MOST_WORDS];
 static int64_t values[FERNPOCKET_MOST_FACTS], given[FERNPOCKET_MOST_FACTS], states[FERNPOCKET_MOST_ENTITIES];
+static int64_t lists[FERNPOCKET_MOST_SLOTS], lengths[FERNPOCKET_MOST_FACTS];
 static int64_t wanted[FERNPOCKET_MOST_STEPS];
 static uint16_t path[FERNPOCKET_MOST_STEPS];
 
@@ -29,7 +33,7 @@ static const char *const wrong[] = {
     [FERNPOCKET_REFUSED_RECORD] = "this record is bad (in the text: line place + 3, counted from 1)",
     [FERNPOCKET_REFUSED_LENGTH] = "a slice has the wrong length",
     [FERNPOCKET_REFUSED_MISSING] = "there is no such persona, operation, outcome, flow, entity, state, rule or node",
-    [FERNPOCKET_REFUSED_FACT_VALUE] = "this fact is given wrongly: its flag is not 0 or 1, or its value is outside min..max",
+    [FERNPOCKET_REFUSED_FACT_VALUE] = "this fact is given wrongly: its flag, value, length or an element is out of range",
     [FERNPOCKET_REFUSED_FACT_ABSENT] = "this fact is not given and has no default",
     [FERNPOCKET_REFUSED_STATE] = "the state of this entity is not one of its states",
     [FERNPOCKET_REFUSED_PERSONA] = "the persona may not perform the operation",
@@ -74,7 +78,8 @@ static void usage(void)
           "       desk run FLOW [STEP:OUTCOME...] [FACT=VALUE...] < SHEET\n"
           "SHEET is a file, every other word in capitals a number. A sheet has no names: its personas, operations,\n"
           "outcomes, flows and facts are numbered from 0, the steps of a flow from its first. OUTCOME is the wanted one;\n"
-          "without it the only outcome that applies is taken.\n",
+          "without it the only outcome that applies is taken. The VALUE of a list is its elements with commas between\n"
+          "them, as in 2=1,0,1, or nothing, as in 2=, where it is empty.\n",
           stderr);
     exit(2);
 }
@@ -116,6 +121,52 @@ static char **want(char **words, size_t steps)
     return words;
 }
 
+/* A number of a fact or of a list. */
+static int64_t value_of(const char *what, const char *word, const char *end)
+{
+    return number(what, word, end, -(int64_t)FERNPOCKET_LARGEST_NUMBER, FERNPOCKET_LARGEST_NUMBER);
+}
+
+/* The largest length of a fact of the accepted sheet that is a list; -1 of another fact. The facts stand first. */
+static int64_t largest(size_t fact)
+{
+    const int64_t *record = sheet + FERNPOCKET_HEADER_WORDS + FERNPOCKET_RECORD_WORDS * fact;
+    return record[0] == LIST ? record[AT_LARGEST] : -1;
+}
+
+/* How many of the facts before this one are lists, and how many slots those have. */
+typedef struct {
+    size_t lists, slots;
+} room;
+
+static room before(size_t fact)
+{
+    room all = {0, 0};
+    for (size_t i = 0; i < fact; i++)
+        if (largest(i) >= 0) {
+            all.lists++;
+            all.slots += (size_t)largest(i);
+        }
+    return all;
+}
+
+/* Takes the elements of a list, numbers with commas between them. More than there is room for are counted and not kept: the
+ * library refuses such a length. */
+static void give_list(size_t fact, const char *word)
+{
+    room own = before(fact);
+    int64_t length = 0;
+    for (int more = *word != '\0'; more; length++) {
+        const char *end = word + strcspn(word, ",");
+        int64_t element = value_of("ELEMENT", word, end);
+        if (length < largest(fact))
+            lists[own.slots + (size_t)length] = element;
+        more = *end == ',';
+        word = end + 1;
+    }
+    lengths[own.lists] = length;
+}
+
 /* Takes the words FACT=VALUE. */
 static void give(char **words, size_t facts)
 {
@@ -130,8 +181,10 @@ static void give(char **words, size_t facts)
             fprintf(stderr, "desk: fact %zu %s\n", fact, fact >= facts ? "is not in the sheet" : "is given twice");
             exit(2);
         }
-        values[fact] = number("VALUE", equals + 1, equals + strlen(equals), -(int64_t)FERNPOCKET_LARGEST_NUMBER,
-                              FERNPOCKET_LARGEST_NUMBER);
+        if (largest(fact) >= 0)
+            give_list(fact, equals + 1);
+        else
+            values[fact] = value_of("VALUE", equals + 1, equals + strlen(equals));
         given[fact] = 1;
     }
 }
@@ -191,18 +244,20 @@ int main(int argc, char **argv)
 
     /* The sheet is accepted, so its counts are within the limits. The entities stand after facts, nodes and rules. */
     size_t facts = (size_t)sheet[FERNPOCKET_AT_FACTS], entities = (size_t)sheet[FERNPOCKET_AT_ENTITIES];
-    int64_t before = sheet[FERNPOCKET_AT_FACTS] + sheet[FERNPOCKET_AT_NODES] + sheet[FERNPOCKET_AT_RULES];
-    const int64_t *entity = sheet + FERNPOCKET_HEADER_WORDS + FERNPOCKET_RECORD_WORDS * before;
+    int64_t records = sheet[FERNPOCKET_AT_FACTS] + sheet[FERNPOCKET_AT_NODES] + sheet[FERNPOCKET_AT_RULES];
+    const int64_t *entity = sheet + FERNPOCKET_HEADER_WORDS + FERNPOCKET_RECORD_WORDS * records;
     for (size_t i = 0; i < entities; i++)
         states[i] = entity[FERNPOCKET_RECORD_WORDS * i + 1];
+    room all = before(facts);
 
     if (operate) {
         int64_t persona = named("PERSONA", argv[2]), operation = named("OPERATION", argv[3]);
         int outcome = argc >= 5 && strchr(argv[4], '=') == NULL;
         int64_t wanted_outcome = outcome ? named("OUTCOME", argv[4]) : -1;
         give(argv + 4 + outcome, facts);
-        fernpocket_answer answer = fernpocket_operate(sheet, sheet_len, values, facts, given, facts, states, entities,
-                                                      persona, operation, wanted_outcome);
+        fernpocket_answer answer = fernpocket_operate(sheet, sheet_len, values, facts, given, facts, lists, all.slots,
+                                                      lengths, all.lists, states, entities, persona, operation,
+                                                      wanted_outcome);
         printf("outcome %" PRId64 "\n", unrefused("operate", unblocked(answer, wanted_outcome)).value);
         print_states(entities);
     } else if (run) {
@@ -211,8 +266,9 @@ int main(int argc, char **argv)
         for (size_t i = 0; i < steps; i++)
             wanted[i] = -1;
         give(want(argv + 3, steps), facts);
-        fernpocket_answer answer = fernpocket_run(sheet, sheet_len, values, facts, given, facts, states, entities, flow,
-                                                  wanted, steps, path, FERNPOCKET_MOST_STEPS);
+        fernpocket_answer answer = fernpocket_run(sheet, sheet_len, values, facts, given, facts, lists, all.slots, lengths,
+                                                  all.lists, states, entities, flow, wanted, steps, path,
+                                                  FERNPOCKET_MOST_STEPS);
         print_path(flow, unrefused("run", answer));
         print_states(entities);
     } else {

@@ -16,6 +16,7 @@ use Rattle.answer.specs.declared.Count.{Count}
 use Rattle.answer.specs.declared.Count.the-variants.{Is, Refused}
 use Rattle.layout.specs.declared.Header.{Header}
 use Rattle.layout.specs.Tables.{operation}
+use Rattle.node.specs.FactValues.{FactValue}
 use Rattle.records.proofs.OperationLaws.{operation-ok}
 use Rattle.predicate.specs.Values.{truth}
 use Rattle.predicate.specs.Inner.{Evaluable}
@@ -56,7 +57,7 @@ module _ (s : List ℤ) (h : Header) (t : Bool) (states : List ℤ) (p o : ℕ) 
 -- ---- what is chosen, and the states afterwards
 
 -- the persona is allowed, the precondition is true, and the choice is c
-pub record Chose (s : List ℤ) (h : Header) (facts verdicts states : List ℤ) (p o : ℕ) (v : Wanted) (c : Choice) : Type 0 where
+pub record Chose (s : List ℤ) (h : Header) (facts : List FactValue) (verdicts states : List ℤ) (p o : ℕ) (v : Wanted) (c : Choice) : Type 0 where
   pub allowed : allowed s h o p ≡ true
   pub truth : truth s h facts verdicts (precondition s h o) ≡ true
   pub chosen : chosen s h states o v ≡ c
@@ -91,7 +92,7 @@ answer-small true true Several k l = omega arith
 answer-small true false x k l = omega arith
 answer-small false t x k l = omega arith
 
-module _ (s : List ℤ) (h : Header) (facts verdicts states : List ℤ) (p o : ℕ) (v : Wanted) where
+module _ (s : List ℤ) (h : Header) (facts : List FactValue) (verdicts states : List ℤ) (p o : ℕ) (v : Wanted) where
   -- an answer of a choice: the attempt came as far as that choice
   pub chose-so : (c : Choice) → attempted s h facts verdicts states p o v ≡ choiceAnswer c → Chose s h facts verdicts states p o v c
   unfolding attempted
@@ -112,17 +113,22 @@ module _ (s : List ℤ) (h : Header) (facts verdicts states : List ℤ) (p o : �
 
 -- ---- what holds on an accepted sheet
 
-module _ {s : List ℤ} {h : Header} {facts verdicts states : List ℤ} {p o : ℕ} (w : Attemptable s h facts verdicts states p o) where
+module _ {s : List ℤ} {h : Header} {facts : List FactValue} {verdicts states : List ℤ} {p o : ℕ} (w : Attemptable s h facts verdicts states p o) where
   -- its precondition can be worked out
   pub evaluable : (n : ℕ) → n ≡ precondition s h o → Evaluable s h facts verdicts n
   evaluable n e =
       let k = operation-ok (w .ready .accepted) o (w .ready .exists) in
       record {
-        over = record { accepted = w .ready .accepted; known = w .known; judged = w .judged; exists = rw e (k .node) };
+        accepted = w .ready .accepted;
+        known = w .known;
+        judged = w .judged;
+        exists = rw e (k .node);
         bool = rw e (k .bool);
+        closed = rw e (k .closed);
       }
 
-module _ {s : List ℤ} {h : Header} {facts verdicts states : List ℤ} {p o : ℕ} (w : Attemptable s h facts verdicts states p o) (v : Wanted) where
+module _ {s : List ℤ} {h : Header} {facts : List FactValue} {verdicts states : List ℤ} {p o : ℕ} (w : Attemptable s h facts verdicts states p o)
+    (v : Wanted) where
   -- an outcome that is answered is one of the operation's
   pub outcome-below : (j : ℕ) → attempted s h facts verdicts states p o v ≡ Is j → j < operation s h o .w4
   outcome-below j q = chosen-exists s h states o v j (chose-so s h facts verdicts states p o v (Outcome j) q .chosen)
@@ -187,7 +193,7 @@ module _ (s : List ℤ) (h : Header) (t : Bool) (states : List ℤ) (p o : ℕ) 
               (sym e, rw e (is-performed ∙ performed-several s h states o v c))
 
 -- an attempt with t is the attempt over facts and verdicts; the precondition matters only where the persona is allowed
-module _ (s : List ℤ) (h : Header) (facts verdicts states : List ℤ) (p o : ℕ) (v : Wanted) {r : Count} {end : List ℤ} {t : Bool}
+module _ (s : List ℤ) (h : Header) (facts : List FactValue) (verdicts states : List ℤ) (p o : ℕ) (v : Wanted) {r : Count} {end : List ℤ} {t : Bool}
     (is-answer : r ≡ attemptedIf s h t states p o v) (is-end : end ≡ attemptedStatesIf s h t states p o v) where
   pub attempt-admits : t ≡ (allowed s h o p && truth s h facts verdicts (precondition s h o))
       → (r ≡ attempted s h facts verdicts states p o v) × (end ≡ attemptedStates s h facts verdicts states p o v)

@@ -9,6 +9,7 @@ use Rattle.answer.specs.declared.Count.{Count}
 use Rattle.answer.specs.declared.Count.the-variants.{Is, Refused}
 use Rattle.layout.specs.declared.Header.{Header}
 use Rattle.layout.specs.Tables.{operation, preconditionOf}
+use Rattle.node.specs.FactValues.{FactValue}
 use Rattle.predicate.specs.Values.{truth}
 use Rattle.operation.specs.declared.Wanted.{Wanted}
 use Rattle.operation.specs.declared.Choice.{Choice}
@@ -32,7 +33,7 @@ unfoldable pub attemptAnswer : Bool → Bool → Choice → Count
 attemptAnswer allowed holds choice =
     elim allowed [ false ↦ Refused Persona | true ↦ elim holds [ false ↦ Refused Precondition | true ↦ choiceAnswer choice ] ]
 
-unfoldable pub attempted : List ℤ → Header → List ℤ → List ℤ → List ℤ → ℕ → ℕ → Wanted → Count
+unfoldable pub attempted : List ℤ → Header → List FactValue → List ℤ → List ℤ → ℕ → ℕ → Wanted → Count
 attempted s h facts verdicts states p o w =
     attemptAnswer (allowed s h o p) (truth s h facts verdicts (precondition s h o)) (chosen s h states o w)
 
@@ -41,5 +42,5 @@ unfoldable pub statesAfter : List ℤ → Header → List ℤ → ℕ → Count 
 statesAfter s h states o (Is j) = applied s h states o j
 statesAfter s h states o (Refused r) = states
 
-unfoldable pub attemptedStates : List ℤ → Header → List ℤ → List ℤ → List ℤ → ℕ → ℕ → Wanted → List ℤ
+unfoldable pub attemptedStates : List ℤ → Header → List FactValue → List ℤ → List ℤ → ℕ → ℕ → Wanted → List ℤ
 attemptedStates s h facts verdicts states p o w = statesAfter s h states o (attempted s h facts verdicts states p o w)

@@ -7,6 +7,7 @@ use lib.IntN.{ℤ}
 use Rattle.answer.specs.declared.Count.{Count}
 use Rattle.layout.specs.declared.Header.{Header}
 use Rattle.layout.specs.Tables.{operation}
+use Rattle.node.specs.FactValues.{FactValue}
 use Rattle.facts.specs.Inner.{FactsIn}
 use Rattle.predicate.specs.Inner.{Truths}
 use Rattle.operation.specs.declared.Wanted.{Wanted}
@@ -16,7 +17,7 @@ use Rattle.operation.specs.Ready.{Ready}
 use Rattle.attempt.specs.Attempts.{attemptAnswer, statesAfter}
 
 -- what an attempt asks: an accepted sheet, facts in their ranges, verdicts, states of their entities, a persona and an operation
-pub record Attemptable (s : List ℤ) (h : Header) (facts verdicts states : List ℤ) (p o : ℕ) : Type 0 where
+pub record Attemptable (s : List ℤ) (h : Header) (facts : List FactValue) (verdicts states : List ℤ) (p o : ℕ) : Type 0 where
   pub ready : Ready s h states o
   pub known : FactsIn s h facts
   pub judged : Truths verdicts

@@ -3,6 +3,7 @@ ghost use mathlib.Core.Path.{_≡_};
 ghost use mathlib.Core.Bool.{_&&_};
 ghost use Rattle.records.specs.Accepted.{Accepted};
 ghost use Rattle.operation.specs.Mask.{allowed};
+ghost use Rattle.facts.specs.Inner.{held};
 ghost use Rattle.predicate.specs.Values.{truth};
 ghost use Rattle.predicate.specs.Inner.{Evaluable};
 ghost use Rattle.operation.specs.Ready.{Ready};
@@ -37,27 +38,36 @@ pub fn precondition_holds(
     s: &[i64],
     h: Header,
     facts: &[i64],
+    lists: &[i64],
     verdicts: &[i64],
     o: Operation,
 ) -> bool
-    requires { ⌜ Evaluable (now s) h (now facts) (now verdicts) (precondition (now s) h (o .0)) ⌝ }
+    requires { ⌜ Evaluable (now s) h (held (now s) (now facts) (now lists)) (now verdicts) (precondition (now s) h (o .0)) ⌝ }
     requires { ⌜ o .0 < h .operations ⌝ }
-    ensures { λ b. ⌜ b ≡ truth (now (s .entry)) h (now (facts .entry)) (now (verdicts .entry)) (precondition (now (s .entry)) h (o .0)) ⌝ }
+    ensures { λ b. ⌜ b ≡ truth (now (s .entry)) h (held (now (s .entry)) (now (facts .entry)) (now (lists .entry))) (now (verdicts .entry)) (precondition (now (s .entry)) h (o .0)) ⌝ }
 {
     let node = precondition(s, h, o);
-    is_true(s, h, facts, verdicts, node)
+    is_true(s, h, facts, lists, verdicts, node)
 }
 
 // The same, but false where the persona is not allowed: then the precondition is not worked out.
-fn admits(s: &[i64], h: Header, facts: &[i64], verdicts: &[i64], p: Persona, o: Operation) -> bool
-    requires { ⌜ Evaluable (now s) h (now facts) (now verdicts) (precondition (now s) h (o .0)) ⌝ }
+fn admits(
+    s: &[i64],
+    h: Header,
+    facts: &[i64],
+    lists: &[i64],
+    verdicts: &[i64],
+    p: Persona,
+    o: Operation,
+) -> bool
+    requires { ⌜ Evaluable (now s) h (held (now s) (now facts) (now lists)) (now verdicts) (precondition (now s) h (o .0)) ⌝ }
     requires { ⌜ (o .0 < h .operations) × (p .0 < h .personas) ⌝ }
-    ensures { λ b. ⌜ b ≡ (allowed (now (s .entry)) h (o .0) (p .0) && truth (now (s .entry)) h (now (facts .entry)) (now (verdicts .entry)) (precondition (now (s .entry)) h (o .0))) ⌝ }
+    ensures { λ b. ⌜ b ≡ (allowed (now (s .entry)) h (o .0) (p .0) && truth (now (s .entry)) h (held (now (s .entry)) (now (facts .entry)) (now (lists .entry))) (now (verdicts .entry)) (precondition (now (s .entry)) h (o .0))) ⌝ }
 {
     if !allows(s, h, o, p) {
         return false;
     }
-    precondition_holds(s, h, facts, verdicts, o)
+    precondition_holds(s, h, facts, lists, verdicts, o)
 }
 
 // Persona, then precondition, then states. `holds` is whether the precondition is true.
@@ -93,16 +103,17 @@ pub fn attempt(
     s: &[i64],
     h: Header,
     facts: &[i64],
+    lists: &[i64],
     verdicts: &[i64],
     states: &mut [i64],
     p: Persona,
     o: Operation,
     wanted: Wanted,
 ) -> Count
-    requires { ⌜ Attemptable (now s) h (now facts) (now verdicts) (now states) (p .0) (o .0) ⌝ }
-    ensures { λ r. ⌜ r ≡ attempted (now (s .entry)) h (now (facts .entry)) (now (verdicts .entry)) (now (states .entry)) (p .0) (o .0) wanted ⌝ }
-    ensures { λ r. ⌜ now (states .exit) ≡ attemptedStates (now (s .entry)) h (now (facts .entry)) (now (verdicts .entry)) (now (states .entry)) (p .0) (o .0) wanted ⌝ }
+    requires { ⌜ Attemptable (now s) h (held (now s) (now facts) (now lists)) (now verdicts) (now states) (p .0) (o .0) ⌝ }
+    ensures { λ r. ⌜ r ≡ attempted (now (s .entry)) h (held (now (s .entry)) (now (facts .entry)) (now (lists .entry))) (now (verdicts .entry)) (now (states .entry)) (p .0) (o .0) wanted ⌝ }
+    ensures { λ r. ⌜ now (states .exit) ≡ attemptedStates (now (s .entry)) h (held (now (s .entry)) (now (facts .entry)) (now (lists .entry))) (now (verdicts .entry)) (now (states .entry)) (p .0) (o .0) wanted ⌝ }
 {
-    let holds = admits(s, h, facts, verdicts, p, o);
+    let holds = admits(s, h, facts, lists, verdicts, p, o);
     attempt_known(s, h, holds, states, p, o, wanted)
 }

@@ -1,5 +1,5 @@
-// Runs the calls of the script in the file stdin, and writes a line for each: the call's number, the answer, and every lent buffer but the wanted
-// words of a run, which are only read.
+// Runs the calls of the script in the file stdin, and writes a line for each: the call's number, the answer, and every lent buffer but lists,
+// lengths and the wanted words of a run, which are only read.
 // A call: the number of what is called, its numbers, its buffers. 0, with the sheet as a buffer, sets the sheet of the calls after it.
 mod calls;
 mod figures;
@@ -28,10 +28,10 @@ fn numbers(call: usize) -> usize {
 // How many buffers a call has.
 fn lent(call: usize) -> usize {
     match call {
-        1 => 2,
-        2 => 3,
-        3 => 3,
-        6 => 5,
+        1 => 4,
+        2 => 5,
+        3 => 5,
+        6 => 7,
         0..=8 => 1,
         _ => 0,
     }
@@ -98,7 +98,7 @@ fn run_all(tape: &[i64], end: usize) {
 }
 
 fn main() {
-    let mut text = [0u8; 131072];
+    let mut text = [0u8; 262144];
     let n = io::read_full(0, &mut text);
     let mut tape = [0i64; 65536];
     let end = script::read(&text[..n], &mut tape);

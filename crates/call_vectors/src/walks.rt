@@ -121,6 +121,8 @@ fn run_on(
     s: &[i64],
     values: &[i64],
     given: &[i64],
+    lists: &[i64],
+    lengths: &[i64],
     states: &mut [i64],
     flow: i64,
     wanted: &[i64],
@@ -129,7 +131,7 @@ fn run_on(
 ) {
     lines::counted(
         case,
-        flows::run(s, values, given, states, flow, wanted, path),
+        flows::run(s, values, given, lists, lengths, states, flow, wanted, path),
     );
     lines::buffer(values);
     lines::buffer(given);
@@ -138,7 +140,40 @@ fn run_on(
     lines::end();
 }
 
-// A run with the facts lent, on buffers from the tape for states, wanted words and path.
+// A run with the facts and lists lent, on buffers from the tape for states, wanted words and path.
+fn run_from(
+    s: &[i64],
+    values: &[i64],
+    given: &[i64],
+    lists: &[i64],
+    lengths: &[i64],
+    tape: &[i64],
+    fifth: usize,
+    flow: i64,
+    case: usize,
+) {
+    let mut states = [0i64; 160];
+    let mut wanted = [0i64; 300];
+    let mut path = [0u16; 512];
+    let sixth = past(tape, fifth);
+    let n = lend(tape, fifth, &mut states);
+    let k = lend(tape, sixth, &mut wanted);
+    let m = lend_path(tape, past(tape, sixth), &mut path);
+    run_on(
+        s,
+        values,
+        given,
+        lists,
+        lengths,
+        &mut states[..n],
+        flow,
+        &wanted[..k],
+        &mut path[..m],
+        case,
+    );
+}
+
+// A run with the facts lent, on buffers from the tape for all else.
 fn run_with(
     s: &[i64],
     values: &[i64],
@@ -148,21 +183,20 @@ fn run_with(
     flow: i64,
     case: usize,
 ) {
-    let mut states = [0i64; 160];
-    let mut wanted = [0i64; 300];
-    let mut path = [0u16; 512];
+    let mut lists = [0i64; 400];
+    let mut lengths = [0i64; 160];
     let fourth = past(tape, third);
-    let n = lend(tape, third, &mut states);
-    let k = lend(tape, fourth, &mut wanted);
-    let m = lend_path(tape, past(tape, fourth), &mut path);
-    run_on(
+    let n = lend(tape, third, &mut lists);
+    let m = lend(tape, fourth, &mut lengths);
+    run_from(
         s,
         values,
         given,
-        &mut states[..n],
+        &lists[..n],
+        &lengths[..m],
+        tape,
+        past(tape, fourth),
         flow,
-        &wanted[..k],
-        &mut path[..m],
         case,
     );
 }

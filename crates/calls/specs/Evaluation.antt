@@ -1,4 +1,4 @@
--- 01, "Evaluation", and 02, CR 1: what the calls assemble, verdicts and operate answer, and what they leave in each lent buffer. Each
+-- 01, "Evaluation", and 02, CR 1 and CR 6: what the calls assemble, verdicts and operate answer, and what they leave in each lent buffer. Each
 -- climbs the ladder first.
 -- Assumes nothing.
 use mathlib.Core.Bool.{Bool, true, _&&_}
@@ -14,8 +14,9 @@ use Rattle.answer.specs.declared.Count.{Count}
 use Rattle.answer.specs.declared.Count.the-variants.{Refused as NoCount}
 use Rattle.layout.specs.declared.Header.{Header}
 use Rattle.records.specs.Operations.{outcomes}
+use Rattle.facts.specs.Lent.{LentFacts}
 use Rattle.facts.specs.Faults.{factsFault}
-use Rattle.facts.specs.Assembled.{assembled}
+use Rattle.facts.specs.Assembled.{assembledValues, assembled}
 use Rattle.predicate.specs.Verdicts.{verdictsOf}
 use Rattle.operation.specs.States.{statesFault}
 use Rattle.operation.specs.declared.Wanted.{Wanted}
@@ -26,33 +27,33 @@ use Rattle.ladder.specs.Ladder.{rungs, opened, climb, by, left, exists, matches
 
 -- ---- assemble: "fact assembly puts defaults in the lent values of facts not given"
 
-unfoldable pub assembleRungs : List ℤ → List ℤ → List ℤ → Header → Status
-assembleRungs s values given h = rungs (factsLent h values given) true (factsFault s h values given) Done
+unfoldable pub assembleRungs : List ℤ → LentFacts → Header → Status
+assembleRungs s t h = rungs (factsLent s h t) true (factsFault s h t) Done
 
-abbrev pub assembleClimb : List ℤ → List ℤ → List ℤ → Climbed
-assembleClimb s values given = climb (opened s) (assembleRungs s values given)
+abbrev pub assembleClimb : List ℤ → LentFacts → Climbed
+assembleClimb s t = climb (opened s) (assembleRungs s t)
 
-abbrev pub assembleAnswer : List ℤ → List ℤ → List ℤ → Status
-assembleAnswer s values given = by (assembleClimb s values given) Refused (λ _. Done)
+abbrev pub assembleAnswer : List ℤ → LentFacts → Status
+assembleAnswer s t = by (assembleClimb s t) Refused (λ _. Done)
 
-abbrev pub assembleValues : List ℤ → List ℤ → List ℤ → List ℤ
-assembleValues s values given = left (assembleClimb s values given) values (λ h. assembled s h values given)
+abbrev pub assembleValues : List ℤ → LentFacts → List ℤ
+assembleValues s t = left (assembleClimb s t) (t .values) (λ h. assembledValues s h (t .values) (t .given))
 
 -- ---- verdicts: "verdict buffers are only written"
 
-unfoldable pub verdictsRungs : List ℤ → List ℤ → List ℤ → ℕ → Header → Status
-verdictsRungs s values given room h =
-    rungs (factsLent h values given && eqb room (h .rules)) true (factsFault s h values given) Done
+unfoldable pub verdictsRungs : List ℤ → LentFacts → ℕ → Header → Status
+verdictsRungs s t room h =
+    rungs (factsLent s h t && eqb room (h .rules)) true (factsFault s h t) Done
 
-abbrev pub verdictsClimb : List ℤ → List ℤ → List ℤ → ℕ → Climbed
-verdictsClimb s values given room = climb (opened s) (verdictsRungs s values given room)
+abbrev pub verdictsClimb : List ℤ → LentFacts → ℕ → Climbed
+verdictsClimb s t room = climb (opened s) (verdictsRungs s t room)
 
-abbrev pub verdictsAnswer : List ℤ → List ℤ → List ℤ → ℕ → Status
-verdictsAnswer s values given room = by (verdictsClimb s values given room) Refused (λ _. Done)
+abbrev pub verdictsAnswer : List ℤ → LentFacts → ℕ → Status
+verdictsAnswer s t room = by (verdictsClimb s t room) Refused (λ _. Done)
 
-abbrev pub verdictsVerdicts : List ℤ → List ℤ → List ℤ → List ℤ → List ℤ
-verdictsVerdicts s values given verdicts =
-    left (verdictsClimb s values given (length verdicts)) verdicts (λ h. verdictsOf s h (assembled s h values given))
+abbrev pub verdictsVerdicts : List ℤ → LentFacts → List ℤ → List ℤ
+verdictsVerdicts s t verdicts =
+    left (verdictsClimb s t (length verdicts)) verdicts (λ h. verdictsOf s h (assembled s h t))
 
 -- ---- operate: 1 to 8, then persona, precondition and states
 
@@ -60,27 +61,27 @@ verdictsVerdicts s values given verdicts =
 unfoldable pub wantedExists : List ℤ → Header → ℤ → ℤ → Bool
 wantedExists s h o w = exists o (h .operations) && goodWanted (outcomes s h (num o)) (wantedOf w)
 
-unfoldable pub operateRungs : List ℤ → List ℤ → List ℤ → List ℤ → ℤ → ℤ → ℤ → Header → Status
-operateRungs s values given states p o w h =
-    rungs (factsLent h values given && matches states (h .entities)) (exists p (h .personas) && wantedExists s h o w)
-    (factsFault s h values given)
+unfoldable pub operateRungs : List ℤ → LentFacts → List ℤ → ℤ → ℤ → ℤ → Header → Status
+operateRungs s t states p o w h =
+    rungs (factsLent s h t && matches states (h .entities)) (exists p (h .personas) && wantedExists s h o w)
+    (factsFault s h t)
     (statesFault s h states)
 
-abbrev pub operateClimb : List ℤ → List ℤ → List ℤ → List ℤ → ℤ → ℤ → ℤ → Climbed
-operateClimb s values given states p o w = climb (opened s) (operateRungs s values given states p o w)
+abbrev pub operateClimb : List ℤ → LentFacts → List ℤ → ℤ → ℤ → ℤ → Climbed
+operateClimb s t states p o w = climb (opened s) (operateRungs s t states p o w)
 
 -- "operations and flows work out verdicts themselves": an attempt over what the lent facts come to
-abbrev pub attemptedOver : List ℤ → Header → List ℤ → List ℤ → List ℤ → ℕ → ℕ → Wanted → Count
-attemptedOver s h values given states p o w = let facts = assembled s h values given in attempted s h facts (verdictsOf s h facts) states p o w
+abbrev pub attemptedOver : List ℤ → Header → LentFacts → List ℤ → ℕ → ℕ → Wanted → Count
+attemptedOver s h t states p o w = let facts = assembled s h t in attempted s h facts (verdictsOf s h facts) states p o w
 
-abbrev pub attemptedStatesOver : List ℤ → Header → List ℤ → List ℤ → List ℤ → ℕ → ℕ → Wanted → List ℤ
-attemptedStatesOver s h values given states p o w =
-    let facts = assembled s h values given in attemptedStates s h facts (verdictsOf s h facts) states p o w
+abbrev pub attemptedStatesOver : List ℤ → Header → LentFacts → List ℤ → ℕ → ℕ → Wanted → List ℤ
+attemptedStatesOver s h t states p o w =
+    let facts = assembled s h t in attemptedStates s h facts (verdictsOf s h facts) states p o w
 
-abbrev pub operateAnswer : List ℤ → List ℤ → List ℤ → List ℤ → ℤ → ℤ → ℤ → Count
-operateAnswer s values given states p o w =
-    by (operateClimb s values given states p o w) NoCount (λ h. attemptedOver s h values given states (num p) (num o) (wantedOf w))
+abbrev pub operateAnswer : List ℤ → LentFacts → List ℤ → ℤ → ℤ → ℤ → Count
+operateAnswer s t states p o w =
+    by (operateClimb s t states p o w) NoCount (λ h. attemptedOver s h t states (num p) (num o) (wantedOf w))
 
-abbrev pub operateStates : List ℤ → List ℤ → List ℤ → List ℤ → ℤ → ℤ → ℤ → List ℤ
-operateStates s values given states p o w =
-    left (operateClimb s values given states p o w) states (λ h. attemptedStatesOver s h values given states (num p) (num o) (wantedOf w))
+abbrev pub operateStates : List ℤ → LentFacts → List ℤ → ℤ → ℤ → ℤ → List ℤ
+operateStates s t states p o w =
+    left (operateClimb s t states p o w) states (λ h. attemptedStatesOver s h t states (num p) (num o) (wantedOf w))

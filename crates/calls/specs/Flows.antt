@@ -1,4 +1,4 @@
--- 01, "Flow" under "Evaluation", and S6, and 02, CR 1: what the calls first, next and run answer, and what they leave in each lent buffer.
+-- 01, "Flow" under "Evaluation", and S6, and 02, CR 1 and CR 6: what the calls first, next and run answer, and what they leave in each lent buffer.
 -- Each climbs the ladder first.
 -- Assumes nothing.
 use mathlib.Core.Bool.{Bool, true, false, _&&_}
@@ -13,6 +13,7 @@ use Rattle.answer.specs.declared.Status.the-variants.{Done}
 use Rattle.answer.specs.declared.Counted.{Counted}
 use Rattle.answer.specs.declared.Counted.the-variants.{Refused as NoWalk}
 use Rattle.layout.specs.declared.Header.{Header}
+use Rattle.facts.specs.Lent.{LentFacts}
 use Rattle.facts.specs.Faults.{factsFault}
 use Rattle.facts.specs.Assembled.{assembled}
 use Rattle.predicate.specs.Verdicts.{verdictsOf}
@@ -37,37 +38,37 @@ wantedLent s h f words = matches words (stepsOr s h f (length words))
 
 -- ---- run: 1 to 8
 
-unfoldable pub runRungs : List ℤ → List ℤ → List ℤ → List ℤ → ℤ → List ℤ → ℕ → Header → Status
-runRungs s values given states f words room h =
-    rungs (factsLent h values given && matches states (h .entities) && wantedLent s h f words && pathLent s h f room)
+unfoldable pub runRungs : List ℤ → LentFacts → List ℤ → ℤ → List ℤ → ℕ → Header → Status
+runRungs s t states f words room h =
+    rungs (factsLent s h t && matches states (h .entities) && wantedLent s h f words && pathLent s h f room)
     (exists f (h .flows) && goodWords s h (num f) words)
-    (factsFault s h values given)
+    (factsFault s h t)
     (statesFault s h states)
 
-abbrev pub runClimb : List ℤ → List ℤ → List ℤ → List ℤ → ℤ → List ℤ → ℕ → Climbed
-runClimb s values given states f words room = climb (opened s) (runRungs s values given states f words room)
+abbrev pub runClimb : List ℤ → LentFacts → List ℤ → ℤ → List ℤ → ℕ → Climbed
+runClimb s t states f words room = climb (opened s) (runRungs s t states f words room)
 
 -- "facts and verdicts are fixed at its start": a run over what the lent facts come to
-abbrev pub ranWalkOver : List ℤ → Header → List ℤ → List ℤ → List ℤ → ℕ → List ℤ → Counted
-ranWalkOver s h values given states f words = let facts = assembled s h values given in ranWalk s h facts (verdictsOf s h facts) states f words
+abbrev pub ranWalkOver : List ℤ → Header → LentFacts → List ℤ → ℕ → List ℤ → Counted
+ranWalkOver s h t states f words = let facts = assembled s h t in ranWalk s h facts (verdictsOf s h facts) states f words
 
-abbrev pub ranPathOver : List ℤ → Header → List ℤ → List ℤ → List ℤ → ℕ → List ℤ → List ℕ → List ℕ
-ranPathOver s h values given states f words b = let facts = assembled s h values given in ranPath s h facts (verdictsOf s h facts) states f words b
+abbrev pub ranPathOver : List ℤ → Header → LentFacts → List ℤ → ℕ → List ℤ → List ℕ → List ℕ
+ranPathOver s h t states f words b = let facts = assembled s h t in ranPath s h facts (verdictsOf s h facts) states f words b
 
-abbrev pub ranStatesOver : List ℤ → Header → List ℤ → List ℤ → List ℤ → ℕ → List ℤ → List ℤ
-ranStatesOver s h values given states f words = let facts = assembled s h values given in ranStates s h facts (verdictsOf s h facts) states f words
+abbrev pub ranStatesOver : List ℤ → Header → LentFacts → List ℤ → ℕ → List ℤ → List ℤ
+ranStatesOver s h t states f words = let facts = assembled s h t in ranStates s h facts (verdictsOf s h facts) states f words
 
-abbrev pub runAnswer : List ℤ → List ℤ → List ℤ → List ℤ → ℤ → List ℤ → List ℕ → Counted
-runAnswer s values given states f words b =
-    by (runClimb s values given states f words (length b)) NoWalk (λ h. ranWalkOver s h values given states (num f) words)
+abbrev pub runAnswer : List ℤ → LentFacts → List ℤ → ℤ → List ℤ → List ℕ → Counted
+runAnswer s t states f words b =
+    by (runClimb s t states f words (length b)) NoWalk (λ h. ranWalkOver s h t states (num f) words)
 
-abbrev pub runPath : List ℤ → List ℤ → List ℤ → List ℤ → ℤ → List ℤ → List ℕ → List ℕ
-runPath s values given states f words b =
-    left (runClimb s values given states f words (length b)) b (λ h. ranPathOver s h values given states (num f) words b)
+abbrev pub runPath : List ℤ → LentFacts → List ℤ → ℤ → List ℤ → List ℕ → List ℕ
+runPath s t states f words b =
+    left (runClimb s t states f words (length b)) b (λ h. ranPathOver s h t states (num f) words b)
 
-abbrev pub runStates : List ℤ → List ℤ → List ℤ → List ℤ → ℤ → List ℤ → List ℕ → List ℤ
-runStates s values given states f words b =
-    left (runClimb s values given states f words (length b)) states (λ h. ranStatesOver s h values given states (num f) words)
+abbrev pub runStates : List ℤ → LentFacts → List ℤ → ℤ → List ℤ → List ℕ → List ℤ
+runStates s t states f words b =
+    left (runClimb s t states f words (length b)) states (λ h. ranStatesOver s h t states (num f) words)
 
 -- ---- S6: first and next: 1 to 5
 

@@ -9,6 +9,7 @@ use lib.ListN.{length, take}
 use Rattle.signed.specs.Words.{num}
 use Rattle.answer.specs.declared.Counted.the-variants.{Is as Walked, Refused as NoWalk}
 use Rattle.layout.specs.declared.Header.{Header}
+use Rattle.facts.specs.Lent.{LentFacts}
 use Rattle.walks.specs.Paths.{stepsOf, paths, path, Among}
 use Rattle.walks.specs.Follows.{walkOf, laid}
 use Rattle.listing.specs.Lists.{Next, State}
@@ -34,10 +35,10 @@ publicReadOff s f (suc k) t =
 
 -- of a run by itself: the sheet was accepted, and it took the routes of one of the flow's paths, which stands in the buffer with 0 past it,
 -- and answered that path's terminal and length
-pub record TookPath (s values given states : List ℤ) (f : ℤ) (words : List ℤ) (b : List ℕ) : Type 0 where
+pub record TookPath (s : List ℤ) (t : LentFacts) (states : List ℤ) (f : ℤ) (words : List ℤ) (b : List ℕ) : Type 0 where
   pub header : Header
   pub sheet : opened s ≡ At header
   pub path : List ℕ
   pub listed : Among (paths s header (num f)) path
-  pub left : runPath s values given states f words b ≡ laid path b
-  pub answers : runAnswer s values given states f words b ≡ walkOf s header path
+  pub left : runPath s t states f words b ≡ laid path b
+  pub answers : runAnswer s t states f words b ≡ walkOf s header path

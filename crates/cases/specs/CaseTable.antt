@@ -2,13 +2,14 @@
 -- Assumes nothing.
 use mathlib.Core.Bool.{Bool, true, false, _&&_}
 use mathlib.Core.List.{List, [], _∷_, _++_, map}
-use Prim.Native.Nat.{ℕ}
+use Prim.Native.Nat.{ℕ, _+_, _*_}
 use lib.IntN.{ℤ, pos, negsuc, negℤ}
-use lib.ListN.{replicate}
+use lib.ListN.{replicate, set}
 use Rattle.signed.specs.Words.{big, eqZ}
 use Rattle.answer.specs.declared.Answer.{Answer}
 use Rattle.answer.specs.Answers.{statusAnswer, countAnswer, countedAnswer}
 use Rattle.records.specs.Accept.{checked}
+use Rattle.facts.specs.Lent.{LentFacts, lent}
 use Rattle.listing.specs.Lists.{Next, First}
 use Rattle.calls.specs.Evaluation.{assembleAnswer, assembleValues, operateAnswer, operateStates}
 use Rattle.calls.specs.Flows.{runAnswer, runPath, runStates}
@@ -16,7 +17,7 @@ use Rattle.calls.specs.Lists.{publicCall, publicCalls}
 use Rattle.text.specs.Lines.{textOf}
 use Rattle.path_lines.specs.Output.{output}
 use Rattle.calls.specs.Reports.{reachableAnswer, admissibleAnswer, depthAnswer}
-use Rattle.cases.specs.Sheets.{whole, sixRoutes, thirdOutcome, sumWith, threeEntities, productIs, amounts, moneyProduct, threeGraphs}
+use Rattle.cases.specs.Sheets.{whole, sixRoutes, thirdOutcome, sumWith, threeEntities, productIs, amounts, moneyProduct, threeGraphs, overList, nested}
 
 -- a case by its number: the row that the definitions give, and the row that the papers give
 pub record Case : Type 0 where
@@ -26,7 +27,7 @@ pub record Case : Type 0 where
 
 -- a row: refusal, place, value and count, then the lent words and the lent path as the call left them
 unfoldable pub row : Answer → List ℤ → List ℕ → List ℤ
-row a lent path = a .refusal ∷ a .place ∷ a .value ∷ a .count ∷ lent ++ map pos path
+row a words path = a .refusal ∷ a .place ∷ a .value ∷ a .count ∷ words ++ map pos path
 
 unfoldable pub same : List ℤ → List ℕ → Bool
 same [] [] = true
@@ -44,6 +45,10 @@ wrong (c ∷ cs) = elim (same (c .got) (c .want)) [ true ↦ wrong cs | false �
 abbrev minus : ℕ → ℤ
 minus n = negℤ (pos n)
 
+-- the facts of a sheet without lists
+abbrev plain : List ℤ → List ℤ → LentFacts
+plain values given = lent values given [] []
+
 -- a path buffer that holds rubbish
 abbrev pub rubbish : List ℕ
 rubbish = 9 ∷ 9 ∷ []
@@ -57,25 +62,25 @@ listed n =
 -- a run with the fact lent as x and flagged g, from state q; step 0 is a branch, step 1 an operation that wants w
 unfoldable pub ranFrom : ℕ → ℕ → ℕ → ℤ → List ℤ
 ranFrom x g q w =
-    let values = pos x ∷ [] in
-    let given = pos g ∷ [] in
+    let facts = plain (pos x ∷ []) (pos g ∷ []) in
     let states = pos q ∷ [] in
     let wanted = negsuc 0 ∷ w ∷ [] in
-    row (countedAnswer (runAnswer whole values given states (pos 0) wanted rubbish)) (runStates whole values given states (pos 0) wanted rubbish)
-    (runPath whole values given states (pos 0) wanted rubbish)
+    row (countedAnswer (runAnswer whole facts states (pos 0) wanted rubbish)) (runStates whole facts states (pos 0) wanted rubbish)
+    (runPath whole facts states (pos 0) wanted rubbish)
 
 -- the operation by itself, with the fact given as 1, from state q, with w wanted
 unfoldable pub operatedFrom : ℕ → ℤ → List ℤ
 operatedFrom q w =
-    let one = pos 1 ∷ [] in
+    let facts = plain (pos 1 ∷ []) (pos 1 ∷ []) in
     let states = pos q ∷ [] in
-    row (countAnswer (operateAnswer whole one one states (pos 0) (pos 0) w)) (operateStates whole one one states (pos 0) (pos 0) w) []
+    row (countAnswer (operateAnswer whole facts states (pos 0) (pos 0) w)) (operateStates whole facts states (pos 0) (pos 0) w) []
 
 -- the operation on three entities, from states a, b and c, with w wanted
 unfoldable pub operatedOnThree : ℕ → ℕ → ℕ → ℤ → List ℤ
 operatedOnThree a b c w =
     let states = pos a ∷ pos b ∷ pos c ∷ [] in
-    row (countAnswer (operateAnswer threeEntities [] [] states (pos 0) (pos 0) w)) (operateStates threeEntities [] [] states (pos 0) (pos 0) w) []
+    row (countAnswer (operateAnswer threeEntities (plain [] []) states (pos 0) (pos 0) w))
+    (operateStates threeEntities (plain [] []) states (pos 0) (pos 0) w) []
 
 -- S3a: whether the product of a fact in low..high by n may be v
 unfoldable pub productMayBe : ℤ → ℤ → ℤ → ℤ → List ℤ
@@ -85,9 +90,9 @@ productMayBe low high n v = row (countAnswer (admissibleAnswer (productIs low hi
 unfoldable pub operatedWith : ℤ → ℤ → List ℤ
 operatedWith x v =
     let s = productIs (minus 3) (pos 5) (minus 2) v in
-    let one = pos 1 ∷ [] in
+    let facts = plain (x ∷ []) (pos 1 ∷ []) in
     let states = pos 0 ∷ [] in
-    row (countAnswer (operateAnswer s (x ∷ []) one states (pos 0) (pos 0) (negsuc 0))) (operateStates s (x ∷ []) one states (pos 0) (pos 0) (negsuc 0)) []
+    row (countAnswer (operateAnswer s facts states (pos 0) (pos 0) (negsuc 0))) (operateStates s facts states (pos 0) (pos 0) (negsuc 0)) []
 
 -- S3a: whether a duration in low..high of unit p and 0 seconds may be w seconds
 unfoldable pub secondsMayBe : ℕ → ℕ → ℕ → ℕ → List ℤ
@@ -98,22 +103,61 @@ secondsMayBe low high p w =
 unfoldable pub operatedOnUnits : ℕ → ℕ → ℕ → ℕ → ℕ → List ℤ
 operatedOnUnits p v q w r =
     let s = amounts 4 13 0 10 p v q w r in
-    let one = pos 1 ∷ [] in
+    let facts = plain (pos 1 ∷ []) (pos 1 ∷ []) in
     let states = pos 0 ∷ [] in
-    row (countAnswer (operateAnswer s one one states (pos 0) (pos 0) (negsuc 0))) (operateStates s one one states (pos 0) (pos 0) (negsuc 0)) []
+    row (countAnswer (operateAnswer s facts states (pos 0) (pos 0) (negsuc 0))) (operateStates s facts states (pos 0) (pos 0) (negsuc 0)) []
 
 unfoldable pub judged : List ℤ → List ℤ
 judged s = row (statusAnswer (checked s)) [] []
 
 unfoldable pub assembledWith : ℕ → ℕ → List ℤ
 assembledWith x g =
-    row (statusAnswer (assembleAnswer whole (pos x ∷ []) (pos g ∷ []))) (assembleValues whole (pos x ∷ []) (pos g ∷ [])) []
+    let facts = plain (pos x ∷ []) (pos g ∷ []) in row (statusAnswer (assembleAnswer whole facts)) (assembleValues whole facts) []
 
 -- what the program writes for a sheet's text
 unfoldable pub wrote : List ℤ → List ℤ
 wrote s = map pos (output (textOf s))
 
+-- the operation whose precondition is that for a quantifier of kind k the elements are at most 5, where the list is flagged g and is lent with
+-- the slots and the lengths; its value word, which is not read, is out of range
+unfoldable pub quantified : ℕ → ℕ → List ℤ → List ℤ → List ℤ
+quantified k g slots lengths =
+    let s = overList 5 k 0 2 in
+    let facts = lent (pos 99 ∷ []) (pos g ∷ []) slots lengths in
+    let states = pos 0 ∷ [] in
+    row (countAnswer (operateAnswer s facts states (pos 0) (pos 0) (negsuc 0))) (operateStates s facts states (pos 0) (pos 0) (negsuc 0)) []
+
+-- three slots
+abbrev slots : ℕ → ℕ → ℕ → List ℤ
+slots a b c = pos a ∷ pos b ∷ pos c ∷ []
+
 -- ---- the table
+
+-- 02, CR 6, numbered 16: empty lists; "for all" and "exists" by each element; slots past the length; what is refused 6 and 7, and other totals;
+-- a quantifier inside another, an element outside of one, and a list that kind 3 names
+unfoldable pub listCases : List Case
+listCases =
+    record { number = 16; got = quantified 14 1 (slots 9 9 9) (pos 0 ∷ []); want = 0 ∷ 0 ∷ 0 ∷ 0 ∷ 0 ∷ [] }
+    ∷ record { number = 16; got = quantified 15 1 (slots 1 1 1) (pos 0 ∷ []); want = 10 ∷ 0 ∷ 0 ∷ 0 ∷ 0 ∷ [] }
+    ∷ record { number = 16; got = quantified 14 1 (slots 5 4 3) (pos 3 ∷ []); want = 0 ∷ 0 ∷ 0 ∷ 0 ∷ 0 ∷ [] }
+    ∷ record { number = 16; got = quantified 14 1 (slots 5 4 6) (pos 3 ∷ []); want = 10 ∷ 0 ∷ 0 ∷ 0 ∷ 0 ∷ [] }
+    ∷ record { number = 16; got = quantified 15 1 (slots 6 7 5) (pos 3 ∷ []); want = 0 ∷ 0 ∷ 0 ∷ 0 ∷ 0 ∷ [] }
+    ∷ record { number = 16; got = quantified 15 1 (slots 6 7 8) (pos 3 ∷ []); want = 10 ∷ 0 ∷ 0 ∷ 0 ∷ 0 ∷ [] }
+    ∷ record { number = 16; got = quantified 14 1 (slots 5 6 10) (pos 1 ∷ []); want = 0 ∷ 0 ∷ 0 ∷ 0 ∷ 0 ∷ [] }
+    ∷ record { number = 16; got = quantified 15 1 (slots 6 5 5) (pos 1 ∷ []); want = 10 ∷ 0 ∷ 0 ∷ 0 ∷ 0 ∷ [] }
+    ∷ record { number = 16; got = quantified 14 1 (slots 5 10 5) (pos 2 ∷ []); want = 6 ∷ 0 ∷ 0 ∷ 0 ∷ 0 ∷ [] }
+    ∷ record { number = 16; got = quantified 14 1 (slots 5 5 5) (pos 4 ∷ []); want = 6 ∷ 0 ∷ 0 ∷ 0 ∷ 0 ∷ [] }
+    ∷ record { number = 16; got = quantified 14 1 (slots 5 5 5) (minus 1 ∷ []); want = 6 ∷ 0 ∷ 0 ∷ 0 ∷ 0 ∷ [] }
+    ∷ record { number = 16; got = quantified 14 2 (slots 5 5 5) (pos 3 ∷ []); want = 6 ∷ 0 ∷ 0 ∷ 0 ∷ 0 ∷ [] }
+    ∷ record { number = 16; got = quantified 14 0 (slots 5 5 5) (pos 3 ∷ []); want = 7 ∷ 0 ∷ 0 ∷ 0 ∷ 0 ∷ [] }
+    ∷ record { number = 16; got = quantified 14 1 (pos 5 ∷ pos 5 ∷ []) (pos 2 ∷ []); want = 4 ∷ 0 ∷ 0 ∷ 0 ∷ 0 ∷ [] }
+    ∷ record { number = 16; got = quantified 14 1 (slots 5 5 5) []; want = 4 ∷ 0 ∷ 0 ∷ 0 ∷ 0 ∷ [] }
+    ∷ record { number = 16; got = quantified 14 1 (slots 5 5 5) (pos 3 ∷ pos 3 ∷ []); want = 4 ∷ 0 ∷ 0 ∷ 0 ∷ 0 ∷ [] }
+    ∷ record { number = 16; got = judged (overList 5 14 0 2); want = 0 ∷ 0 ∷ 0 ∷ 0 ∷ [] }
+    ∷ record { number = 16; got = judged (overList 5 11 2 0); want = 3 ∷ 7 ∷ 0 ∷ 0 ∷ [] }
+    ∷ record { number = 16; got = judged nested; want = 3 ∷ 3 ∷ 0 ∷ 0 ∷ [] }
+    ∷ record { number = 16; got = judged (set (overList 5 14 0 2) (16 + 8 * 1) (pos 3)); want = 3 ∷ 1 ∷ 0 ∷ 0 ∷ [] }
+    ∷ []
 
 -- 02, CR 5, numbered 15: each entity's mask and scans, and no such entity
 unfoldable pub scanned : ℤ → List ℤ
@@ -126,7 +170,7 @@ scanCases =
     ∷ record { number = 15; got = scanned (pos 2); want = 0 ∷ 0 ∷ 1 ∷ 1 ∷ [] }
     ∷ record { number = 15; got = scanned (pos 3); want = 5 ∷ 0 ∷ 0 ∷ 0 ∷ [] }
     ∷ record { number = 15; got = scanned (minus 1); want = 5 ∷ 0 ∷ 0 ∷ 0 ∷ [] }
-    ∷ []
+    ∷ listCases
 
 -- 02, CR 4, numbered 14: what is refused at the node, types that mix and products; the limits of currencies and units; each converted range
 -- within −M..M (11,575 days are more than M seconds); S3a by all whole numbers of 1 to 2 days in seconds; a day is 24 hours, an hour 3,600 seconds

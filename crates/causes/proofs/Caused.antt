@@ -15,6 +15,7 @@ use Rattle.signed.proofs.Bounds.{true-in}
 use Rattle.signed.proofs.Numbers.{num-of}
 use Rattle.layout.specs.declared.Header.{Header}
 use Rattle.layout.specs.Tables.{operation, effect}
+use Rattle.node.specs.FactValues.{FactValue}
 use Rattle.records.proofs.OperationLaws.{operation-ok}
 use Rattle.predicate.specs.Values.{truth}
 use Rattle.predicate.proofs.ValueLaws.{true-in-range}
@@ -35,7 +36,8 @@ use Rattle.attempt.proofs.AttemptLaws.{Chose, chose-so, outcome-states, refused
 use Rattle.causes.specs.Causes.{canBeTrue, admissible, causes, canCause}
 use Rattle.causes.proofs.Effects.{some-of}
 
-module _ {s : List ℤ} {h : Header} {facts verdicts states : List ℤ} {p o : ℕ} (w : Attemptable s h facts verdicts states p o) (d : Wanted) where
+module _ {s : List ℤ} {h : Header} {facts : List FactValue} {verdicts states : List ℤ} {p o : ℕ} (w : Attemptable s h facts verdicts states p o)
+    (d : Wanted) where
   -- what an attempt that is not refused chose
   went : (j : ℕ) → attempted s h facts verdicts states p o d ≡ Is j → Chose s h facts verdicts states p o d (Outcome j)
   went j q = chose-so s h facts verdicts states p o d (Outcome j) q
@@ -45,8 +47,9 @@ module _ {s : List ℤ} {h : Header} {facts verdicts states : List ℤ} {p o : �
     pub could-be-true : canBeTrue s h o ≡ true
     unfolding canBeTrue
     could-be-true =
-        true-in _ _ _ (true-in-range s h facts verdicts (w .ready .accepted) (w .known) (w .judged) (operation s h o .w1)
-        (operation-ok (w .ready .accepted) o (w .ready .exists) .node) (went j q .truth))
+        let k = operation-ok (w .ready .accepted) o (w .ready .exists) in
+        true-in _ _ _ (true-in-range s h facts verdicts (w .ready .accepted) (w .known) (w .judged) (operation s h o .w1) (k .node) (k .closed)
+        (went j q .truth))
 
     -- each effect that was applied is one that S3a and S4 say the persona can cause
     module _ (n e : ℕ) (m : Moves s h states o j n e) where

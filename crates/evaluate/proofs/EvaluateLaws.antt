@@ -15,10 +15,12 @@ use Rattle.answer.specs.declared.Status.the-variants.{Done, Refused}
 use Rattle.answer.specs.declared.Count.the-variants.{Refused as NoCount}
 use Rattle.answer.specs.Inner.{Every, SmallStatus, SmallCount}
 use Rattle.layout.specs.declared.Header.{Header}
+use Rattle.node.specs.FactValues.{FactValue}
+use Rattle.facts.specs.Lent.{LentFacts}
 use Rattle.facts.specs.Faults.{factsFault}
 use Rattle.facts.specs.Assembled.{assembled}
-use Rattle.facts.specs.Inner.{FactsIn}
-use Rattle.facts.proofs.FaultLaws.{facts-in, fault-every}
+use Rattle.facts.specs.Inner.{FactsIn, LengthsIn}
+use Rattle.facts.proofs.FaultLaws.{facts-in, lengths-in, fault-every}
 use Rattle.predicate.specs.Verdicts.{verdictsOf}
 use Rattle.predicate.proofs.VerdictLaws.{verdicts-true}
 use Rattle.records.specs.Operations.{outcomes}
@@ -31,33 +33,39 @@ use Rattle.ladder.specs.declared.Climbed.{Climbed}
 use Rattle.ladder.specs.declared.Climbed.the-variants.{At, Stopped}
 use Rattle.ladder.specs.Ladder.{opened, climb, exists}
 use Rattle.ladder.proofs.ClimbLaws.{Past, passed, climbed-at, opened-at}
+use Rattle.ladder.proofs.LentLaws.{all-lent}
 use Rattle.ladder.proofs.Small.{Early, checked-early, early-small, rungs-every, climb-every, rungs-small, call-small}
 use Rattle.calls.specs.Evaluation.{assembleRungs, assembleAnswer, verdictsRungs, verdictsAnswer, wantedExists, operateRungs, operateClimb, operateAnswer}
-use Rattle.evaluate.specs.Settled.{LentFacts, LentOperation}
+use Rattle.evaluate.specs.Settled.{GoodFactsLent, LentOperation}
 
 -- ---- once the ladder is climbed
 
 -- the facts come to values in their ranges
-pub known-in : {s : List ℤ} {h : Header} {values given : List ℤ} → LentFacts s h values given → FactsIn s h (assembled s h values given)
-known-in {s} {h} {values} {given} k = facts-in s h values given (k .sheet) (k .faultless)
+pub known-in : {s : List ℤ} {h : Header} {t : LentFacts} → GoodFactsLent s h t → FactsIn s h (assembled s h t)
+known-in {s} {h} {t} k = facts-in s h t (k .sheet) (k .faultless)
+
+-- and their lists are no longer than they may be
+pub lengths-known : {s : List ℤ} {h : Header} {t : LentFacts} → GoodFactsLent s h t → LengthsIn s h (t .lengths)
+lengths-known {s} {h} {t} k = lengths-in s h t (k .sheet) (k .all) (k .faultless)
 
 -- and the operation can be attempted over them and their verdicts
-pub attemptable : {s : List ℤ} {h : Header} {values given states facts verdicts : List ℤ} {p o : ℕ} → LentOperation s h values given states p o
-    → facts ≡ assembled s h values given → verdicts ≡ verdictsOf s h (assembled s h values given) → Attemptable s h facts verdicts states p o
-attemptable {s} {h} {values} {given} a e v =
+pub attemptable : {s : List ℤ} {h : Header} {t : LentFacts} {facts : List FactValue} {states verdicts : List ℤ} {p o : ℕ}
+    → LentOperation s h t states p o → facts ≡ assembled s h t → verdicts ≡ verdictsOf s h (assembled s h t)
+    → Attemptable s h facts verdicts states p o
+attemptable {s} {h} {t} a e v =
     record {
       ready = record { accepted = a .known .sheet; lent = a .lent; exists = a .operation };
       known = rw e (known-in (a .known));
-      judged = rw v (verdicts-true s h (assembled s h values given));
+      judged = rw v (verdicts-true s h (assembled s h t));
       persona = a .persona;
     }
 
 -- what an operation asks, where nothing is refused
-pub asked : (s values given states : List ℤ) (p o v : ℤ) {h : Header} {x : Climbed} → x ≡ operateClimb s values given states p o v → x ≡ At h
-    → LentOperation s h values given states (num p) (num o)
+pub asked : (s : List ℤ) (t : LentFacts) (states : List ℤ) (p o v : ℤ) {h : Header} {x : Climbed} → x ≡ operateClimb s t states p o v → x ≡ At h
+    → LentOperation s h t states (num p) (num o)
 unfolding operateRungs wantedExists
-asked s values given states p o v {h} e q =
-    let w = climbed-at (opened s) (operateRungs s values given states p o v) e q in
+asked s t states p o v {h} e q =
+    let w = climbed-at (opened s) (operateRungs s t states p o v) e q in
     let g = passed (w .clear) in
     let z = simp tests at (g .lengths) in
     let y = and-left (exists p (h .personas)) (wantedExists s h o v) (g .numbers) in
@@ -65,28 +73,28 @@ asked s values given states p o v {h} e q =
     and-left (exists o (h .operations)) (goodWanted (outcomes s h (num o)) (wantedOf v))
     (and-right (exists p (h .personas)) (wantedExists s h o v) (g .numbers)) in
     record {
-      known = record { sheet = opened-at s refl (w .sheet) .sheet; all-values = z .0 .0; all-given = z .0 .1; faultless = g .facts };
+      known = record { sheet = opened-at s refl (w .sheet) .sheet; all = all-lent (z .0); faultless = g .facts };
       lent = states-in s h states (z .1) (g .states);
       persona = ltb-true _ _ y;
       operation = ltb-true _ _ x;
     }
 
 -- and that the operation may want the outcome
-pub asked-wanted : (s values given states : List ℤ) (p o v : ℤ) {h : Header} → operateClimb s values given states p o v ≡ At h
+pub asked-wanted : (s : List ℤ) (t : LentFacts) (states : List ℤ) (p o v : ℤ) {h : Header} → operateClimb s t states p o v ≡ At h
     → goodWanted (outcomes s h (num o)) (wantedOf v) ≡ true
 unfolding operateRungs wantedExists
-asked-wanted s values given states p o v {h} q =
-    let g = passed (climbed-at (opened s) (operateRungs s values given states p o v) refl q .clear) in
+asked-wanted s t states p o v {h} q =
+    let g = passed (climbed-at (opened s) (operateRungs s t states p o v) refl q .clear) in
     and-right (exists o (h .operations)) (goodWanted (outcomes s h (num o)) (wantedOf v))
     (and-right (exists p (h .personas)) (wantedExists s h o v) (g .numbers))
 
 -- ---- answers fit a signed word
 
-module _ (s values given : List ℤ) where
-  pub facts-early : (h : Header) → opened s ≡ At h → Every Early (factsFault s h values given)
+module _ (s : List ℤ) (t : LentFacts) where
+  pub facts-early : (h : Header) → opened s ≡ At h → Every Early (factsFault s h t)
   facts-early h e =
       let few = opened-at s refl e .sheet .sized .limits .facts in
-      fault-every s h values given Early
+      fault-every s h t Early
       (λ k l. (record { number = omega arith; place = omega arith }, record { number = omega arith; place = omega arith }))
 
   pub states-early : (states : List ℤ) (h : Header) → opened s ≡ At h → Every Early (statesFault s h states)
@@ -94,36 +102,37 @@ module _ (s values given : List ℤ) where
       let few = opened-at s refl e .sheet .sized .limits .entities in
       stray-every s h states Early (λ n l. record { number = omega arith; place = omega arith })
 
-  pub facts-small : (h : Header) → opened s ≡ At h → SmallStatus (factsFault s h values given)
-  facts-small h e = early-small (factsFault s h values given) (facts-early h e)
+  pub facts-small : (h : Header) → opened s ≡ At h → SmallStatus (factsFault s h t)
+  facts-small h e = early-small (factsFault s h t) (facts-early h e)
 
   pub states-small : (states : List ℤ) (h : Header) → opened s ≡ At h → SmallStatus (statesFault s h states)
   states-small states h e = early-small (statesFault s h states) (states-early states h e)
 
-  pub assemble-small : SmallStatus (assembleAnswer s values given)
+  pub assemble-small : SmallStatus (assembleAnswer s t)
   unfolding assembleRungs
   assemble-small =
-      call-small SmallStatus Refused (λ _. Done) (λ r p. p) s (assembleRungs s values given) (λ h e. rungs-small _ _ _ _ (facts-small h e) tt)
+      call-small SmallStatus Refused (λ _. Done) (λ r p. p) s (assembleRungs s t) (λ h e. rungs-small _ _ _ _ (facts-small h e) tt)
       (λ h e. tt)
 
-  pub verdicts-small : (room : ℕ) → SmallStatus (verdictsAnswer s values given room)
+  pub verdicts-small : (room : ℕ) → SmallStatus (verdictsAnswer s t room)
   unfolding verdictsRungs
   verdicts-small room =
-      call-small SmallStatus Refused (λ _. Done) (λ r p. p) s (verdictsRungs s values given room) (λ h e. rungs-small _ _ _ _ (facts-small h e) tt)
+      call-small SmallStatus Refused (λ _. Done) (λ r p. p) s (verdictsRungs s t room) (λ h e. rungs-small _ _ _ _ (facts-small h e) tt)
       (λ h e. tt)
 
-  pub operate-small : (states : List ℤ) (p o v : ℤ) → SmallCount (operateAnswer s values given states p o v)
+  pub operate-small : (states : List ℤ) (p o v : ℤ) → SmallCount (operateAnswer s t states p o v)
   unfolding operateRungs
   operate-small states p o v =
-      call-small SmallCount NoCount _ (λ r p. p) s (operateRungs s values given states p o v)
+      call-small SmallCount NoCount _ (λ r p. p) s (operateRungs s t states p o v)
       (λ h e. rungs-small _ _ _ _ (facts-small h e) (states-small states h e))
-      (λ h e. attempt-small (attemptable (asked s values given states p o v refl e) refl refl) (wantedOf v))
+      (λ h e. attempt-small (attemptable (asked s t states p o v refl e) refl refl) (wantedOf v))
 
 -- an operation call that stops on the ladder is refused 1 to 8
-pub operate-early : (s values given states : List ℤ) (p o v : ℤ) {r : Refusal} → operateClimb s values given states p o v ≡ Stopped r → number r ≤ 8
+pub operate-early : (s : List ℤ) (t : LentFacts) (states : List ℤ) (p o v : ℤ) {r : Refusal} → operateClimb s t states p o v ≡ Stopped r
+    → number r ≤ 8
 unfolding operateRungs
-operate-early s values given states p o v {r} e =
-    let k = climb-every Early s (operateRungs s values given states p o v) (checked-early s)
+operate-early s t states p o v {r} e =
+    let k = climb-every Early s (operateRungs s t states p o v) (checked-early s)
     (λ h e. rungs-every Early _ _ _ _ (record { number = omega arith; place = omega arith }) (record { number = omega arith; place = omega arith })
-    (facts-early s values given h e) (states-early s values given states h e)) in
+    (facts-early s t h e) (states-early s t states h e)) in
     (rw e at k) .number

@@ -2,11 +2,13 @@
 ghost use mathlib.Core.Path.{_≡_};
 ghost use lib.ListN.{length};
 ghost use Rattle.records.specs.Accepted.{Accepted};
+ghost use Rattle.facts.specs.Lent.{lent};
 ghost use Rattle.facts.specs.Assembled.{assembled};
+ghost use Rattle.facts.specs.Inner.{held};
 ghost use Rattle.predicate.specs.Verdicts.{verdictsOf};
 ghost use Rattle.calls.specs.Evaluation.{assembleClimb, assembleAnswer, assembleValues, verdictsClimb, verdictsAnswer, verdictsVerdicts};
 ghost use Rattle.calls.specs.Evaluation.{wantedExists, attemptedOver, attemptedStatesOver, operateClimb, operateAnswer, operateStates};
-ghost use Rattle.evaluate.specs.Settled.{LentFacts, LentOperation};
+ghost use Rattle.evaluate.specs.Settled.{GoodFactsLent, LentOperation};
 use answer::Count;
 use answer::Status;
 use attempt::attempt;
@@ -30,24 +32,36 @@ use records::outcomes_of;
 use signed::num;
 
 // The rungs of fact assembly: 1 to 4, 6 and 7.
-fn climb_assemble(s: &[i64], values: &[i64], given: &[i64]) -> Climbed
-    ensures { λ c. ⌜ c ≡ assembleClimb (now (s .entry)) (now (values .entry)) (now (given .entry)) ⌝ }
+fn climb_assemble(
+    s: &[i64],
+    values: &[i64],
+    given: &[i64],
+    lists: &[i64],
+    lengths: &[i64],
+) -> Climbed
+    ensures { λ c. ⌜ c ≡ assembleClimb (now (s .entry)) (lent (now (values .entry)) (now (given .entry)) (now (lists .entry)) (now (lengths .entry))) ⌝ }
 {
     match open_sheet(s) {
         Climbed::Stopped(r) => Climbed::Stopped(r),
         Climbed::At(h) => {
-            let t = judge_call(facts_lent(h, values, given), true);
-            reached(then_facts(t, s, h, values, given), h)
+            let t = judge_call(facts_lent(s, h, values, given, lists, lengths), true);
+            reached(then_facts(t, s, h, values, given, lists, lengths), h)
         }
     }
 }
 
 // Fact assembly.
-pub fn assemble(s: &[i64], values: &mut [i64], given: &[i64]) -> Status
-    ensures { λ r. ⌜ r ≡ assembleAnswer (now (s .entry)) (now (values .entry)) (now (given .entry)) ⌝ }
-    ensures { λ r. ⌜ now (values .exit) ≡ assembleValues (now (s .entry)) (now (values .entry)) (now (given .entry)) ⌝ }
+pub fn assemble(
+    s: &[i64],
+    values: &mut [i64],
+    given: &[i64],
+    lists: &[i64],
+    lengths: &[i64],
+) -> Status
+    ensures { λ r. ⌜ r ≡ assembleAnswer (now (s .entry)) (lent (now (values .entry)) (now (given .entry)) (now (lists .entry)) (now (lengths .entry))) ⌝ }
+    ensures { λ r. ⌜ now (values .exit) ≡ assembleValues (now (s .entry)) (lent (now (values .entry)) (now (given .entry)) (now (lists .entry)) (now (lengths .entry))) ⌝ }
 {
-    match climb_assemble(s, values, given) {
+    match climb_assemble(s, values, given, lists, lengths) {
         Climbed::Stopped(r) => Status::Refused(r),
         Climbed::At(h) => {
             fill_defaults(s, h, values, given);
@@ -62,52 +76,85 @@ pub fn settle(
     h: Header,
     values: &[i64],
     given: &[i64],
+    lists: &[i64],
+    lengths: &[i64],
     facts: &mut [i64],
     verdicts: &mut [i64],
 )
-    requires { ⌜ LentFacts (now s) h (now values) (now given) ⌝ }
+    requires { ⌜ GoodFactsLent (now s) h (lent (now values) (now given) (now lists) (now lengths)) ⌝ }
     requires { ⌜ (length (now facts) ≡ h .facts) × (length (now verdicts) ≡ h .rules) ⌝ }
-    ensures { λ _. ⌜ now (facts .exit) ≡ assembled (now (s .entry)) h (now (values .entry)) (now (given .entry)) ⌝ }
-    ensures { λ _. ⌜ now (verdicts .exit) ≡ verdictsOf (now (s .entry)) h (assembled (now (s .entry)) h (now (values .entry)) (now (given .entry))) ⌝ }
+    ensures { λ _. ⌜ held (now (s .entry)) (now (facts .exit)) (now (lists .entry)) ≡ assembled (now (s .entry)) h (lent (now (values .entry)) (now (given .entry)) (now (lists .entry)) (now (lengths .entry))) ⌝ }
+    ensures { λ _. ⌜ now (verdicts .exit) ≡ verdictsOf (now (s .entry)) h (assembled (now (s .entry)) h (lent (now (values .entry)) (now (given .entry)) (now (lists .entry)) (now (lengths .entry)))) ⌝ }
 {
-    facts::assemble(s, h, values, given, facts);
-    fill_verdicts(s, h, facts, verdicts);
+    facts::assemble(s, h, values, given, lengths, facts);
+    fill_verdicts(s, h, facts, lists, verdicts);
 }
 
 // The verdicts over the lent facts.
-fn judge(s: &[i64], h: Header, values: &[i64], given: &[i64], verdicts: &mut [i64])
-    requires { ⌜ LentFacts (now s) h (now values) (now given) ⌝ }
+fn judge(
+    s: &[i64],
+    h: Header,
+    values: &[i64],
+    given: &[i64],
+    lists: &[i64],
+    lengths: &[i64],
+    verdicts: &mut [i64],
+)
+    requires { ⌜ GoodFactsLent (now s) h (lent (now values) (now given) (now lists) (now lengths)) ⌝ }
     requires { ⌜ length (now verdicts) ≡ h .rules ⌝ }
-    ensures { λ _. ⌜ now (verdicts .exit) ≡ verdictsOf (now (s .entry)) h (assembled (now (s .entry)) h (now (values .entry)) (now (given .entry))) ⌝ }
+    ensures { λ _. ⌜ now (verdicts .exit) ≡ verdictsOf (now (s .entry)) h (assembled (now (s .entry)) h (lent (now (values .entry)) (now (given .entry)) (now (lists .entry)) (now (lengths .entry)))) ⌝ }
 {
     let mut facts = [0i64; Header::FACTS];
     let n = h.facts;
-    settle(s, h, values, given, &mut facts[..n], verdicts);
+    settle(
+        s,
+        h,
+        values,
+        given,
+        lists,
+        lengths,
+        &mut facts[..n],
+        verdicts,
+    );
 }
 
 // The rungs of verdicts: those of fact assembly, with one slice more.
-fn climb_verdicts(s: &[i64], values: &[i64], given: &[i64], room: usize) -> Climbed
-    ensures { λ c. ⌜ c ≡ verdictsClimb (now (s .entry)) (now (values .entry)) (now (given .entry)) room ⌝ }
+fn climb_verdicts(
+    s: &[i64],
+    values: &[i64],
+    given: &[i64],
+    lists: &[i64],
+    lengths: &[i64],
+    room: usize,
+) -> Climbed
+    ensures { λ c. ⌜ c ≡ verdictsClimb (now (s .entry)) (lent (now (values .entry)) (now (given .entry)) (now (lists .entry)) (now (lengths .entry))) room ⌝ }
 {
     match open_sheet(s) {
         Climbed::Stopped(r) => Climbed::Stopped(r),
         Climbed::At(h) => {
-            let long = facts_lent(h, values, given) & (room == h.rules);
+            let long = facts_lent(s, h, values, given, lists, lengths) & (room == h.rules);
             let t = judge_call(long, true);
-            reached(then_facts(t, s, h, values, given), h)
+            reached(then_facts(t, s, h, values, given, lists, lengths), h)
         }
     }
 }
 
 // The verdict of each rule.
-pub fn verdicts(s: &[i64], values: &[i64], given: &[i64], verdicts: &mut [i64]) -> Status
-    ensures { λ r. ⌜ r ≡ verdictsAnswer (now (s .entry)) (now (values .entry)) (now (given .entry)) (length (now (verdicts .entry))) ⌝ }
-    ensures { λ r. ⌜ now (verdicts .exit) ≡ verdictsVerdicts (now (s .entry)) (now (values .entry)) (now (given .entry)) (now (verdicts .entry)) ⌝ }
+pub fn verdicts(
+    s: &[i64],
+    values: &[i64],
+    given: &[i64],
+    lists: &[i64],
+    lengths: &[i64],
+    verdicts: &mut [i64],
+) -> Status
+    ensures { λ r. ⌜ r ≡ verdictsAnswer (now (s .entry)) (lent (now (values .entry)) (now (given .entry)) (now (lists .entry)) (now (lengths .entry))) (length (now (verdicts .entry))) ⌝ }
+    ensures { λ r. ⌜ now (verdicts .exit) ≡ verdictsVerdicts (now (s .entry)) (lent (now (values .entry)) (now (given .entry)) (now (lists .entry)) (now (lengths .entry))) (now (verdicts .entry)) ⌝ }
 {
-    match climb_verdicts(s, values, given, verdicts.len()) {
+    match climb_verdicts(s, values, given, lists, lengths, verdicts.len()) {
         Climbed::Stopped(r) => Status::Refused(r),
         Climbed::At(h) => {
-            judge(s, h, values, given, verdicts);
+            judge(s, h, values, given, lists, lengths, verdicts);
             Status::Done
         }
     }
@@ -119,6 +166,8 @@ fn act_on(
     h: Header,
     values: &[i64],
     given: &[i64],
+    lists: &[i64],
+    lengths: &[i64],
     facts: &mut [i64],
     verdicts: &mut [i64],
     states: &mut [i64],
@@ -126,13 +175,13 @@ fn act_on(
     o: Operation,
     wanted: Wanted,
 ) -> Count
-    requires { ⌜ LentOperation (now s) h (now values) (now given) (now states) (p .0) (o .0) ⌝ }
+    requires { ⌜ LentOperation (now s) h (lent (now values) (now given) (now lists) (now lengths)) (now states) (p .0) (o .0) ⌝ }
     requires { ⌜ (length (now facts) ≡ h .facts) × (length (now verdicts) ≡ h .rules) ⌝ }
-    ensures { λ r. ⌜ r ≡ attemptedOver (now (s .entry)) h (now (values .entry)) (now (given .entry)) (now (states .entry)) (p .0) (o .0) wanted ⌝ }
-    ensures { λ r. ⌜ now (states .exit) ≡ attemptedStatesOver (now (s .entry)) h (now (values .entry)) (now (given .entry)) (now (states .entry)) (p .0) (o .0) wanted ⌝ }
+    ensures { λ r. ⌜ r ≡ attemptedOver (now (s .entry)) h (lent (now (values .entry)) (now (given .entry)) (now (lists .entry)) (now (lengths .entry))) (now (states .entry)) (p .0) (o .0) wanted ⌝ }
+    ensures { λ r. ⌜ now (states .exit) ≡ attemptedStatesOver (now (s .entry)) h (lent (now (values .entry)) (now (given .entry)) (now (lists .entry)) (now (lengths .entry))) (now (states .entry)) (p .0) (o .0) wanted ⌝ }
 {
-    settle(s, h, values, given, facts, verdicts);
-    attempt(s, h, facts, verdicts, states, p, o, wanted)
+    settle(s, h, values, given, lists, lengths, facts, verdicts);
+    attempt(s, h, facts, lists, verdicts, states, p, o, wanted)
 }
 
 fn act(
@@ -140,14 +189,16 @@ fn act(
     h: Header,
     values: &[i64],
     given: &[i64],
+    lists: &[i64],
+    lengths: &[i64],
     states: &mut [i64],
     p: Persona,
     o: Operation,
     wanted: Wanted,
 ) -> Count
-    requires { ⌜ LentOperation (now s) h (now values) (now given) (now states) (p .0) (o .0) ⌝ }
-    ensures { λ r. ⌜ r ≡ attemptedOver (now (s .entry)) h (now (values .entry)) (now (given .entry)) (now (states .entry)) (p .0) (o .0) wanted ⌝ }
-    ensures { λ r. ⌜ now (states .exit) ≡ attemptedStatesOver (now (s .entry)) h (now (values .entry)) (now (given .entry)) (now (states .entry)) (p .0) (o .0) wanted ⌝ }
+    requires { ⌜ LentOperation (now s) h (lent (now values) (now given) (now lists) (now lengths)) (now states) (p .0) (o .0) ⌝ }
+    ensures { λ r. ⌜ r ≡ attemptedOver (now (s .entry)) h (lent (now (values .entry)) (now (given .entry)) (now (lists .entry)) (now (lengths .entry))) (now (states .entry)) (p .0) (o .0) wanted ⌝ }
+    ensures { λ r. ⌜ now (states .exit) ≡ attemptedStatesOver (now (s .entry)) h (lent (now (values .entry)) (now (given .entry)) (now (lists .entry)) (now (lengths .entry))) (now (states .entry)) (p .0) (o .0) wanted ⌝ }
 {
     let mut facts = [0i64; Header::FACTS];
     let mut verdicts = [0i64; Header::RULES];
@@ -158,6 +209,8 @@ fn act(
         h,
         values,
         given,
+        lists,
+        lengths,
         &mut facts[..n],
         &mut verdicts[..m],
         states,
@@ -184,20 +237,23 @@ fn climb_operate(
     s: &[i64],
     values: &[i64],
     given: &[i64],
+    lists: &[i64],
+    lengths: &[i64],
     states: &[i64],
     persona: i64,
     operation: i64,
     wanted: i64,
 ) -> Climbed
-    ensures { λ c. ⌜ c ≡ operateClimb (now (s .entry)) (now (values .entry)) (now (given .entry)) (now (states .entry)) persona operation wanted ⌝ }
+    ensures { λ c. ⌜ c ≡ operateClimb (now (s .entry)) (lent (now (values .entry)) (now (given .entry)) (now (lists .entry)) (now (lengths .entry))) (now (states .entry)) persona operation wanted ⌝ }
 {
     match open_sheet(s) {
         Climbed::Stopped(r) => Climbed::Stopped(r),
         Climbed::At(h) => {
-            let long = facts_lent(h, values, given) & (states.len() == h.entities);
+            let long = facts_lent(s, h, values, given, lists, lengths)
+                & (states.len() == h.entities);
             let known = exists(persona, h.personas) & wanted_exists(s, h, operation, wanted);
             let t = judge_call(long, known);
-            let u = then_facts(t, s, h, values, given);
+            let u = then_facts(t, s, h, values, given, lists, lengths);
             reached(then_states(u, s, h, states), h)
         }
     }
@@ -208,21 +264,35 @@ pub fn operate(
     s: &[i64],
     values: &[i64],
     given: &[i64],
+    lists: &[i64],
+    lengths: &[i64],
     states: &mut [i64],
     persona: i64,
     operation: i64,
     wanted: i64,
 ) -> Count
-    ensures { λ r. ⌜ r ≡ operateAnswer (now (s .entry)) (now (values .entry)) (now (given .entry)) (now (states .entry)) persona operation wanted ⌝ }
-    ensures { λ r. ⌜ now (states .exit) ≡ operateStates (now (s .entry)) (now (values .entry)) (now (given .entry)) (now (states .entry)) persona operation wanted ⌝ }
+    ensures { λ r. ⌜ r ≡ operateAnswer (now (s .entry)) (lent (now (values .entry)) (now (given .entry)) (now (lists .entry)) (now (lengths .entry))) (now (states .entry)) persona operation wanted ⌝ }
+    ensures { λ r. ⌜ now (states .exit) ≡ operateStates (now (s .entry)) (lent (now (values .entry)) (now (given .entry)) (now (lists .entry)) (now (lengths .entry))) (now (states .entry)) persona operation wanted ⌝ }
 {
-    match climb_operate(s, values, given, states, persona, operation, wanted) {
+    match climb_operate(
+        s,
+        values,
+        given,
+        lists,
+        lengths,
+        states,
+        persona,
+        operation,
+        wanted,
+    ) {
         Climbed::Stopped(r) => Count::Refused(r),
         Climbed::At(h) => act(
             s,
             h,
             values,
             given,
+            lists,
+            lengths,
             states,
             Persona(num(persona)),
             Operation(num(operation)),

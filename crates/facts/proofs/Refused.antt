@@ -80,3 +80,16 @@ module _ (f : ℕ → Status) where
   first-by P d i zero h = d
   first-by P d i (suc n) h =
       first-case P i n (f i) refl (h i (omega arith) (omega arith)) (first-by P d (suc i) n (λ j a b. h j (omega arith) (omega arith)))
+
+-- equal statuses have an equal first refusal
+pub first-same : (f g : ℕ → Status) (i n : ℕ) → ((j : ℕ) → i ≤ j → j < i + n → f j ≡ g j) → firstRefused f i n ≡ firstRefused g i n
+unfolding firstRefused
+first-same f g i zero e = refl
+first-same f g i (suc n) e = go (f i) refl (first-same f g (suc i) n (λ j a b. e j (omega arith) (omega arith)))
+  where
+    here : f i ≡ g i
+    here = e i (omega arith) (omega arith)
+
+    go : (t : Status) → f i ≡ t → firstRefused f (suc i) n ≡ firstRefused g (suc i) n → firstRefused f i (suc n) ≡ firstRefused g i (suc n)
+    go Done q ih = skip f i n q ∙ ih ∙ sym (skip g i n (sym here ∙ q))
+    go (Refused r) q ih = stop f i n r q ∙ sym (stop g i n r (sym here ∙ q))

@@ -1,3 +1,4 @@
+pub mod Lent
 pub mod Faults
 pub mod Assembled
 pub mod Inner

@@ -21,6 +21,7 @@ use Rattle.answer.specs.Answers.{countAnswer}
 use Rattle.layout.specs.declared.Header.{Header}
 use Rattle.layout.specs.Header.{headerOf}
 use Rattle.records.specs.Operations.{outcomes}
+use Rattle.facts.specs.Lent.{LentFacts}
 use Rattle.operation.specs.declared.Choice.{Choice}
 use Rattle.operation.specs.declared.Choice.the-variants.{Outcome, Nothing, Several}
 use Rattle.operation.specs.declared.Wanted.the-variants.{Any}
@@ -106,21 +107,21 @@ by-same (Stopped r) f g k e = refl
 
 -- ---- the call
 
-module _ (s values given states : List ℤ) (p o : ℤ) where
-  same-rungs : (h : Header) → operateRungs s values given states p o (negsuc 0) h ≡ rungsBefore s values given states p o h
+module _ (s : List ℤ) (lent : LentFacts) (states : List ℤ) (p o : ℤ) where
+  same-rungs : (h : Header) → operateRungs s lent states p o (negsuc 0) h ≡ rungsBefore s lent states p o h
   unfolding operateRungs rungsBefore wantedExists goodWanted
   same-rungs h = rw (any-word refl, and-yes (exists o (h .operations)))
 
-  same-climb : operateClimb s values given states p o (negsuc 0) ≡ climbBefore s values given states p o
+  same-climb : operateClimb s lent states p o (negsuc 0) ≡ climbBefore s lent states p o
   same-climb =
-      climb-same (opened s) (operateRungs s values given states p o (negsuc 0)) (rungsBefore s values given states p o) same-rungs
+      climb-same (opened s) (operateRungs s lent states p o (negsuc 0)) (rungsBefore s lent states p o) same-rungs
 
-  module _ (x : countAnswer (operateAnswer s values given states p o (negsuc 0)) .refusal ≡ pos 16 → ⊥) where
-    same-over : (h : Header) → operateClimb s values given states p o (negsuc 0) ≡ At h
-        → (placeless (countAnswer (attemptedOver s h values given states (num p) (num o) (wantedOf (negsuc 0))))
-        ≡ countAnswer (overBefore s h values given states (num p) (num o)))
-        × (attemptedStatesOver s h values given states (num p) (num o) (wantedOf (negsuc 0))
-        ≡ statesAfter s h states (num o) (overBefore s h values given states (num p) (num o)))
+  module _ (x : countAnswer (operateAnswer s lent states p o (negsuc 0)) .refusal ≡ pos 16 → ⊥) where
+    same-over : (h : Header) → operateClimb s lent states p o (negsuc 0) ≡ At h
+        → (placeless (countAnswer (attemptedOver s h lent states (num p) (num o) (wantedOf (negsuc 0))))
+        ≡ countAnswer (overBefore s h lent states (num p) (num o)))
+        × (attemptedStatesOver s h lent states (num p) (num o) (wantedOf (negsuc 0))
+        ≡ statesAfter s h states (num o) (overBefore s h lent states (num p) (num o)))
     unfolding attempted attemptedBefore attemptedStates chosen
     same-over h e =
         let c = chosen s h states (num o) (wantedOf (negsuc 0)) in
@@ -130,24 +131,24 @@ module _ (s values given states : List ℤ) (p o : ℤ) where
         (λ z. x (ap (λ (a : Count). countAnswer a .refusal) (sym (worked _ _ refl e refl) ∙ z))) in
         (answer-placed _ _ c ∙ ap countAnswer k, states-placed s h states (num o) _ _ c ∙ ap (statesAfter s h states (num o)) k)
 
-    answer-same : (c : Climbed) → operateClimb s values given states p o (negsuc 0) ≡ c
-        → placeless (countAnswer (by c NoCount (λ h. attemptedOver s h values given states (num p) (num o) (wantedOf (negsuc 0)))))
-        ≡ countAnswer (by c NoCount (λ h. overBefore s h values given states (num p) (num o)))
+    answer-same : (c : Climbed) → operateClimb s lent states p o (negsuc 0) ≡ c
+        → placeless (countAnswer (by c NoCount (λ h. attemptedOver s h lent states (num p) (num o) (wantedOf (negsuc 0)))))
+        ≡ countAnswer (by c NoCount (λ h. overBefore s h lent states (num p) (num o)))
     unfolding by
     answer-same (At h) e = same-over h e .0
-    answer-same (Stopped r) e = placeless-early r (operate-early s values given states p o (negsuc 0) e)
+    answer-same (Stopped r) e = placeless-early r (operate-early s lent states p o (negsuc 0) e)
 
     pub before-unless-16 :
-        (placeless (countAnswer (operateAnswer s values given states p o (negsuc 0))) ≡ countAnswer (operateBefore s values given states p o))
-        × (operateStates s values given states p o (negsuc 0) ≡ statesBefore s values given states p o)
+        (placeless (countAnswer (operateAnswer s lent states p o (negsuc 0))) ≡ countAnswer (operateBefore s lent states p o))
+        × (operateStates s lent states p o (negsuc 0) ≡ statesBefore s lent states p o)
     before-unless-16 = (
-      answer-same (operateClimb s values given states p o (negsuc 0)) refl
-          ∙ ap (λ (c : Climbed). countAnswer (by c NoCount (λ h. overBefore s h values given states (num p) (num o)))) same-climb,
-      by-same (operateClimb s values given states p o (negsuc 0)) (λ _. states) _ _ (λ h e. same-over h e .1)
-          ∙ ap (λ (c : Climbed). left c states (λ h. statesAfter s h states (num o) (overBefore s h values given states (num p) (num o)))) same-climb,
+      answer-same (operateClimb s lent states p o (negsuc 0)) refl
+          ∙ ap (λ (c : Climbed). countAnswer (by c NoCount (λ h. overBefore s h lent states (num p) (num o)))) same-climb,
+      by-same (operateClimb s lent states p o (negsuc 0)) (λ _. states) _ _ (λ h e. same-over h e .1)
+          ∙ ap (λ (c : Climbed). left c states (λ h. statesAfter s h states (num o) (overBefore s h lent states (num p) (num o)))) same-climb,
     )
 
   -- of one outcome there are not two
   pub one-never-16 : outcomes s (headerOf s) (num o) ≡ 1
-      → countAnswer (operateAnswer s values given states p o (negsuc 0)) .refusal ≡ pos 16 → ⊥
-  one-never-16 n e = let t = sixteen s values given states p o (negsuc 0) e .1 in omega (arith, t .order, t .exists)
+      → countAnswer (operateAnswer s lent states p o (negsuc 0)) .refusal ≡ pos 16 → ⊥
+  one-never-16 n e = let t = sixteen s lent states p o (negsuc 0) e .1 in omega (arith, t .order, t .exists)

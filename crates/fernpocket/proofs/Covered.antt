@@ -23,6 +23,7 @@ use Rattle.operation.specs.States.{present}
 use Rattle.operation.proofs.Movers.{Moves}
 use Rattle.attempt.specs.Inner.{Attemptable}
 use Rattle.attempt.proofs.AttemptLaws.{attempted-in}
+use Rattle.facts.specs.Lent.{LentFacts}
 use Rattle.facts.specs.Assembled.{assembled}
 use Rattle.predicate.specs.Verdicts.{verdictsOf}
 use Rattle.reach.specs.Reached.{Reached}
@@ -42,32 +43,32 @@ use Rattle.reports.proofs.ReportLaws.{report-exists}
 pub under-header : (s : List ℤ) (rest : Header → Status) {h : Header} → climb (opened s) rest ≡ At h → climb (opened s) rest ≡ At (headerOf s)
 under-header s rest e = e ∙ ap At (sym (opened-at s refl (climbed-at (opened s) rest refl e .sheet) .header))
 
-module _ (s values given states : List ℤ) (p o v : ℤ) where
+module _ (s : List ℤ) (lent : LentFacts) (states : List ℤ) (p o v : ℤ) where
   abbrev after : List ℤ
-  after = operateStates s values given states p o v
+  after = operateStates s lent states p o v
 
   abbrev pub Made : Type 0
-  Made = operateClimb s values given states p o v ≡ At (headerOf s)
+  Made = operateClimb s lent states p o v ≡ At (headerOf s)
 
   -- a call that climbed the ladder did so under the header that is read
-  pub made : {h : Header} → operateClimb s values given states p o v ≡ At h → Made
-  made e = under-header s (operateRungs s values given states p o v) e
+  pub made : {h : Header} → operateClimb s lent states p o v ≡ At h → Made
+  made e = under-header s (operateRungs s lent states p o v) e
 
-  refused-same : (r : Refusal) → operateClimb s values given states p o v ≡ Stopped r → after ≡ states
+  refused-same : (r : Refusal) → operateClimb s lent states p o v ≡ Stopped r → after ≡ states
   refused-same r e = sym (stopped _ _ refl e)
 
-  pub made-after : Made → after ≡ attemptedStatesOver s (headerOf s) values given states (num p) (num o) (wantedOf v)
+  pub made-after : Made → after ≡ attemptedStatesOver s (headerOf s) lent states (num p) (num o) (wantedOf v)
   made-after e = sym (worked _ _ refl e refl)
 
   made-sheet : Made → opened s ≡ At (headerOf s)
-  made-sheet e = climbed-at (opened s) (operateRungs s values given states p o v) refl e .sheet
+  made-sheet e = climbed-at (opened s) (operateRungs s lent states p o v) refl e .sheet
 
-  made-asked : Made → LentOperation s (headerOf s) values given states (num p) (num o)
-  made-asked e = asked s values given states p o v refl e
+  made-asked : Made → LentOperation s (headerOf s) lent states (num p) (num o)
+  made-asked e = asked s lent states p o v refl e
 
   -- so that it was an attempt
   pub attempt-ready : Made
-      → Attemptable s (headerOf s) (assembled s (headerOf s) values given) (verdictsOf s (headerOf s) (assembled s (headerOf s) values given))
+      → Attemptable s (headerOf s) (assembled s (headerOf s) lent) (verdictsOf s (headerOf s) (assembled s (headerOf s) lent))
       states (num p) (num o)
   attempt-ready e = attemptable (made-asked e) refl refl
 
@@ -110,7 +111,7 @@ module _ (s values given states : List ℤ) (p o v : ℤ) where
           (ap (λ (t : List ℤ). present t n) (sym (made-after e))) x in
           (admissible-yes (present states n) a-state (y .0), cause-yes (present states n) (present after n) a-state b-state (y .1))
 
-      applied-yes : (j k : ℕ) → attemptedOver s (headerOf s) values given states (num p) (num o) (wantedOf v) ≡ Is j
+      applied-yes : (j k : ℕ) → attemptedOver s (headerOf s) lent states (num p) (num o) (wantedOf v) ≡ Is j
           → Moves s (headerOf s) states (num o) j n k → Yes (effect s (headerOf s) k .w1) (effect s (headerOf s) k .w2)
       applied-yes j k q m =
           let ready = attempt-ready e in
@@ -122,26 +123,26 @@ module _ (s values given states : List ℤ) (p o v : ℤ) where
 
     -- a state that the call changed is one that S3a and S4 answer yes to
     pub covered : (present states n ≡ present after n → ⊥) → Yes (present states n) (present after n)
-    covered x = go (operateClimb s values given states p o v) refl
+    covered x = go (operateClimb s lent states p o v) refl
       where
-        go : (c : Climbed) → operateClimb s values given states p o v ≡ c → Yes (present states n) (present after n)
+        go : (c : Climbed) → operateClimb s lent states p o v ≡ c → Yes (present states n) (present after n)
         go (At h) e = changed-yes (made e) x
         go (Stopped r) e = absurd (x (ap (λ (t : List ℤ). present t n) (sym (refused-same r e))))
 
     -- and so is each effect of the outcome answered that started from its entity's state, also one that leads back to it
-    pub applied-covered : (j k : ℕ) → operateAnswer s values given states p o v ≡ Is j → Moves s (headerOf s) states (num o) j n k
+    pub applied-covered : (j k : ℕ) → operateAnswer s lent states p o v ≡ Is j → Moves s (headerOf s) states (num o) j n k
         → Yes (effect s (headerOf s) k .w1) (effect s (headerOf s) k .w2)
     applied-covered j k q m =
         by-all (λ (c : Count). c ≡ Is j → Yes (effect s (headerOf s) k .w1) (effect s (headerOf s) k .w2))
-        (operateClimb s values given states p o v) NoCount _
+        (operateClimb s lent states p o v) NoCount _
         (λ r e a. let z : _≡_ {A = ℕ} 0 1 = cc in absurd (omega arith))
         (λ h e a. applied-yes (made e) j k (worked _ _ refl (made e) refl ∙ q) m)
         q
 
     -- and a reached state stays one
     pub still-reached : Reached s (headerOf s) n (present states n) → Reached s (headerOf s) n (present after n)
-    still-reached r = go (operateClimb s values given states p o v) refl
+    still-reached r = go (operateClimb s lent states p o v) refl
       where
-        go : (c : Climbed) → operateClimb s values given states p o v ≡ c → Reached s (headerOf s) n (present after n)
+        go : (c : Climbed) → operateClimb s lent states p o v ≡ c → Reached s (headerOf s) n (present after n)
         go (At h) e = rw (made-after (made e)) (reached-attempt (attempt-ready (made e)) (wantedOf v) n l r)
         go (Stopped x) e = rw (refused-same x e) r

@@ -8,7 +8,7 @@ use mathlib.Core.List.{List, _∷_}
 use mathlib.Core.Logic.{_↔_}
 use Prim.Native.Nat.{ℕ, _+_, _%_, _≤_, _<_}
 use lib.IntN.{ℤ, pos, negsuc, _+ℤ_, _-ℤ_, _*ℤ_}
-use lib.ListN.{length, take}
+use lib.ListN.{length, take, getD}
 use Rattle.signed.specs.Words.{num}
 use Rattle.signed.specs.Compare.{holds}
 use Rattle.signed.proofs.Numbers.{num-of}
@@ -26,10 +26,14 @@ use Rattle.text.proofs.RoundTrips.{text-again, words-again, one-text}
 use Rattle.item.specs.Sorts.{isDuration}
 use Rattle.item.specs.Units.{crossed, factor, shared, converted}
 use Rattle.item.proofs.Units.{converted-two}
+use Rattle.node.specs.FactValues.{FactValue}
+use Rattle.node.specs.Rows.{isTrue}
 use Rattle.records.specs.Accept.{checked}
 use Rattle.records.specs.Nodes.{nodeWords}
 use Rattle.records.specs.Operations.{outcomes}
-use Rattle.predicate.specs.Values.{truth}
+use Rattle.facts.specs.Lent.{LentFacts}
+use Rattle.predicate.specs.Values.{valueOf}
+use Rattle.predicate.specs.Verdicts.{whenNode}
 use Rattle.predicate.specs.Units.{secondsOf}
 use Rattle.predicate.proofs.UnitLaws.{sum-seconds, difference-seconds, comparison-seconds}
 use Rattle.operation.specs.Mask.{inMask}
@@ -46,8 +50,9 @@ use Rattle.calls.specs.Reports.{reachableAnswer}
 use Rattle.calls.specs.Lists.{publicCall, publicCalls, ListedNumbers}
 use Rattle.flows.proofs.PublicListing.{public-numbers, public-whole}
 use Rattle.fernpocket.specs.Before.{placeless, operateBefore, statesBefore}
-use Rattle.fernpocket.specs.Promised.{Went, WasRefused, FlowReady, readTo13, RanPath, TwoApply, OneApplies, Operated, Blocked, NoneApplies, Decided, Foreseen, Pairs, RefusedAt}
+use Rattle.fernpocket.specs.Promised.{Went, WasRefused, FlowReady, readTo13, RanPath, TwoApply, OneApplies, Operated, Blocked, NoneApplies, Decided, Foreseen, Pairs, RefusedAt, elementsOfRule, bodyTrue}
 use Rattle.fernpocket.proofs.AsBefore.{before-unless-16, one-never-16}
+use Rattle.fernpocket.proofs.Quantified.{for-all-lent, exists-lent}
 use Rattle.fernpocket.proofs.Covered.{covered, applied-covered, still-reached}
 use Rattle.fernpocket.proofs.InNumbers.{went-is, listable, ready-sheet, ready-flow, read-same, ran-path, operated, mask-reached, mask-scans}
 use Rattle.fernpocket.proofs.InNumbers.{wanted-goes, only-goes, one-blocked, eleven, sixteen, two-sixteen}
@@ -72,24 +77,24 @@ refused-read = read-kept
 pub refused-write : (words : List ℤ) (text : List ℕ) → WasRefused (countAnswer (writeAnswer words (length text))) → writeBuffer words text ≡ text
 refused-write = write-kept
 
-pub refused-assemble : (s values given : List ℤ) → WasRefused (statusAnswer (assembleAnswer s values given)) → assembleValues s values given ≡ values
+pub refused-assemble : (s : List ℤ) (lent : LentFacts) → WasRefused (statusAnswer (assembleAnswer s lent)) → assembleValues s lent ≡ lent .values
 refused-assemble = assemble-kept
 
-pub refused-verdicts : (s values given verdicts : List ℤ)
-    → WasRefused (statusAnswer (verdictsAnswer s values given (length verdicts)))
-    → verdictsVerdicts s values given verdicts ≡ verdicts
+pub refused-verdicts : (s : List ℤ) (lent : LentFacts) (verdicts : List ℤ)
+    → WasRefused (statusAnswer (verdictsAnswer s lent (length verdicts)))
+    → verdictsVerdicts s lent verdicts ≡ verdicts
 refused-verdicts = verdicts-kept
 
-pub refused-operate : (s values given states : List ℤ) (persona operation wanted : ℤ)
-    → WasRefused (countAnswer (operateAnswer s values given states persona operation wanted))
-    → operateStates s values given states persona operation wanted ≡ states
+pub refused-operate : (s : List ℤ) (lent : LentFacts) (states : List ℤ) (persona operation wanted : ℤ)
+    → WasRefused (countAnswer (operateAnswer s lent states persona operation wanted))
+    → operateStates s lent states persona operation wanted ≡ states
 refused-operate = operate-kept
 
-pub refused-run : (s values given states : List ℤ) (flow : ℤ) (wanted : List ℤ) (path : List ℕ)
-    → WasRefused (countedAnswer (runAnswer s values given states flow wanted path))
-    → (runPath s values given states flow wanted path ≡ path) × (runStates s values given states flow wanted path ≡ states)
-refused-run s values given states flow wanted path x =
-    (run-path-kept s values given states flow wanted path x, run-states-kept s values given states flow wanted path x)
+pub refused-run : (s : List ℤ) (lent : LentFacts) (states : List ℤ) (flow : ℤ) (wanted : List ℤ) (path : List ℕ)
+    → WasRefused (countedAnswer (runAnswer s lent states flow wanted path))
+    → (runPath s lent states flow wanted path ≡ path) × (runStates s lent states flow wanted path ≡ states)
+refused-run s lent states flow wanted path x =
+    (run-path-kept s lent states flow wanted path x, run-states-kept s lent states flow wanted path x)
 
 pub refused-first : (s : List ℤ) (flow : ℤ) (path : List ℕ) → WasRefused (countedAnswer (firstAnswer s flow path)) → firstPath s flow path ≡ path
 refused-first = first-kept
@@ -99,56 +104,56 @@ refused-next = next-kept
 
 -- ---- demand 2: operations, and what the reports say of them
 
-module _ (s values given states : List ℤ) (persona operation wanted : ℤ) where
+module _ (s : List ℤ) (lent : LentFacts) (states : List ℤ) (persona operation wanted : ℤ) where
   abbrev after : List ℤ
-  after = operateStates s values given states persona operation wanted
+  after = operateStates s lent states persona operation wanted
 
   -- An operation that goes through makes the changes of its chosen outcome that start from the present states, and no others.
-  pub operate-changes : (j : ℕ) → Went (countAnswer (operateAnswer s values given states persona operation wanted)) j
-      → Operated s values given states persona operation wanted j
+  pub operate-changes : (j : ℕ) → Went (countAnswer (operateAnswer s lent states persona operation wanted)) j
+      → Operated s lent states persona operation wanted j
   operate-changes j w =
-      operated s values given states persona operation wanted j (went-is (operateAnswer s values given states persona operation wanted) w)
+      operated s lent states persona operation wanted j (went-is (operateAnswer s lent states persona operation wanted) w)
 
   -- 02, CR 1. Of the calls that get as far as the states: a wanted outcome that is applicable is taken;
-  pub wanted-taken : Decided (countAnswer (operateAnswer s values given states persona operation wanted))
+  pub wanted-taken : Decided (countAnswer (operateAnswer s lent states persona operation wanted))
       → (k : ℕ) → wanted ≡ pos k → applicable s (headerOf s) states (num operation) k ≡ true
-      → Went (countAnswer (operateAnswer s values given states persona operation wanted)) k
-  wanted-taken = wanted-goes s values given states persona operation wanted
+      → Went (countAnswer (operateAnswer s lent states persona operation wanted)) k
+  wanted-taken = wanted-goes s lent states persona operation wanted
 
   -- with −1, the only one that is applicable is.
-  pub only-taken : Decided (countAnswer (operateAnswer s values given states persona operation wanted))
+  pub only-taken : Decided (countAnswer (operateAnswer s lent states persona operation wanted))
       → wanted ≡ negsuc 0 → (j : ℕ) → OneApplies s states (num operation) j
-      → Went (countAnswer (operateAnswer s values given states persona operation wanted)) j
-  only-taken = only-goes s values given states persona operation wanted
+      → Went (countAnswer (operateAnswer s lent states persona operation wanted)) j
+  only-taken = only-goes s lent states persona operation wanted
 
   -- Refused 11, the wanted outcome is not applicable, or with −1 none is. CR 2: the place is the first entity that blocks the wanted outcome, or
   -- with −1 the outcome numbered 0.
-  pub eleven-none : countAnswer (operateAnswer s values given states persona operation wanted) .refusal ≡ pos 11
-      → NoneApplies s states operation wanted (countAnswer (operateAnswer s values given states persona operation wanted) .place)
-  eleven-none = eleven s values given states persona operation wanted
+  pub eleven-none : countAnswer (operateAnswer s lent states persona operation wanted) .refusal ≡ pos 11
+      → NoneApplies s states operation wanted (countAnswer (operateAnswer s lent states persona operation wanted) .place)
+  eleven-none = eleven s lent states persona operation wanted
 
   -- Of the calls that get as far as the states, exactly those are refused 16 that carry −1 and have two applicable outcomes or more.
-  pub sixteen-two : Decided (countAnswer (operateAnswer s values given states persona operation wanted))
-      → (countAnswer (operateAnswer s values given states persona operation wanted) .refusal ≡ pos 16)
+  pub sixteen-two : Decided (countAnswer (operateAnswer s lent states persona operation wanted))
+      → (countAnswer (operateAnswer s lent states persona operation wanted) .refusal ≡ pos 16)
       ↔ ((wanted ≡ negsuc 0) × TwoApply s states (num operation))
   sixteen-two d =
-      (sixteen s values given states persona operation wanted, λ t. two-sixteen s values given states persona operation wanted d (t .0) (t .1))
+      (sixteen s lent states persona operation wanted, λ t. two-sixteen s lent states persona operation wanted d (t .0) (t .1))
 
   module _ (n : ℕ) (l : n < headerOf s .entities) where
     -- Whatever state an operation call changed, S3a and S4 answer yes to for the persona who made it.
     pub change-foreseen : (present states n ≡ present after n → ⊥) → Foreseen s persona operation n (present states n) (present after n)
     change-foreseen x =
-        let y = covered s values given states persona operation wanted n l x in
+        let y = covered s lent states persona operation wanted n l x in
         record { admissible = ap countAnswer (y .0); caused = ap countAnswer (y .1) }
 
     -- And so for each effect of the outcome answered that started from its entity's state, also one that leads back to that state.
-    pub effect-foreseen : (j e : ℕ) → Went (countAnswer (operateAnswer s values given states persona operation wanted)) j
+    pub effect-foreseen : (j e : ℕ) → Went (countAnswer (operateAnswer s lent states persona operation wanted)) j
         → moves s (headerOf s) states (num operation) j n e ≡ true
         → Foreseen s persona operation n (effect s (headerOf s) e .w1) (effect s (headerOf s) e .w2)
     effect-foreseen j e w m =
         let y =
-        applied-covered s values given states persona operation wanted n l j e
-        (went-is (operateAnswer s values given states persona operation wanted) w)
+        applied-covered s lent states persona operation wanted n l j e
+        (went-is (operateAnswer s lent states persona operation wanted) w)
         (moves-true s (headerOf s) states (num operation) j n e m) in
         record { admissible = ap countAnswer (y .0); caused = ap countAnswer (y .1) }
 
@@ -157,7 +162,7 @@ module _ (s values given states : List ℤ) (persona operation wanted : ℤ) whe
         → inMask mask (present states n) ≡ true → inMask mask (present after n) ≡ true
     reached-stays mask w b =
         let is = rw (num-of n) at (mask-reached s (pos n) mask w) in
-        is (present after n) .0 (still-reached s values given states persona operation wanted n l (is (present states n) .1 b))
+        is (present after n) .0 (still-reached s lent states persona operation wanted n l (is (present states n) .1 b))
 
 -- No two entities are the first that blocks an outcome, so that `eleven-none` says which number the place is.
 pub one-blocks : (s states : List ℤ) (operation j n m : ℕ) → Blocked s states operation j n → Blocked s states operation j m → n ≡ m
@@ -165,21 +170,21 @@ one-blocks = one-blocked
 
 -- With −1 an operation call answers and leaves what 01's own rule, the first applicable outcome, answered and left, but for the place of 11,
 -- unless it is refused 16;
-pub as-before : (s values given states : List ℤ) (persona operation : ℤ)
-    → (countAnswer (operateAnswer s values given states persona operation (negsuc 0)) .refusal ≡ pos 16 → ⊥)
-    → (placeless (countAnswer (operateAnswer s values given states persona operation (negsuc 0)))
-    ≡ countAnswer (operateBefore s values given states persona operation))
-    × (operateStates s values given states persona operation (negsuc 0) ≡ statesBefore s values given states persona operation)
+pub as-before : (s : List ℤ) (lent : LentFacts) (states : List ℤ) (persona operation : ℤ)
+    → (countAnswer (operateAnswer s lent states persona operation (negsuc 0)) .refusal ≡ pos 16 → ⊥)
+    → (placeless (countAnswer (operateAnswer s lent states persona operation (negsuc 0)))
+    ≡ countAnswer (operateBefore s lent states persona operation))
+    × (operateStates s lent states persona operation (negsuc 0) ≡ statesBefore s lent states persona operation)
 as-before = before-unless-16
 
 -- and an operation with one outcome never is.
-pub one-outcome-as-before : (s values given states : List ℤ) (persona operation : ℤ)
+pub one-outcome-as-before : (s : List ℤ) (lent : LentFacts) (states : List ℤ) (persona operation : ℤ)
     → outcomes s (headerOf s) (num operation) ≡ 1
-    → (placeless (countAnswer (operateAnswer s values given states persona operation (negsuc 0)))
-    ≡ countAnswer (operateBefore s values given states persona operation))
-    × (operateStates s values given states persona operation (negsuc 0) ≡ statesBefore s values given states persona operation)
-one-outcome-as-before s values given states persona operation n =
-    before-unless-16 s values given states persona operation (one-never-16 s values given states persona operation n)
+    → (placeless (countAnswer (operateAnswer s lent states persona operation (negsuc 0)))
+    ≡ countAnswer (operateBefore s lent states persona operation))
+    × (operateStates s lent states persona operation (negsuc 0) ≡ statesBefore s lent states persona operation)
+one-outcome-as-before s lent states persona operation n =
+    before-unless-16 s lent states persona operation (one-never-16 s lent states persona operation n)
 
 -- S2's mask has exactly the states reached from the initial one by zero or more declared transitions.
 pub mask-is-reached : (s : List ℤ) (entity : ℤ) (mask : ℕ) → Went (countedAnswer (reachableAnswer s entity)) mask
@@ -211,24 +216,25 @@ unit-seconds v = (refl, refl, refl)
 pub conversion-steps : (u v w : ℕ) (x : ℤ) → u ≤ v → v ≤ w → x *ℤ pos (factor u v) *ℤ pos (factor v w) ≡ (x *ℤ pos (factor u w))
 conversion-steps = converted-two
 
--- On an accepted sheet, over any facts and verdicts: whatever the units of two durations, their sum has the seconds of both, their difference
--- the seconds between them, and each of the six comparisons is that of their seconds.
-module _ (s : List ℤ) (a : statusAnswer (checked s) .refusal ≡ pos 0) (facts verdicts : List ℤ) (n : ℕ) (l : n < headerOf s .nodes) where
+-- On an accepted sheet, over any facts and verdicts, and in the body of a quantifier at any element: whatever the units of two durations, their
+-- sum has the seconds of both, their difference the seconds between them, and each of the six comparisons is that of their seconds.
+module _ (s : List ℤ) (a : statusAnswer (checked s) .refusal ≡ pos 0) (facts : List FactValue) (verdicts : List ℤ) (n : ℕ)
+    (l : n < headerOf s .nodes) (element : ℤ) where
   abbrev words : Words
   words = nodeWords s (headerOf s) n
 
   abbrev seconds : ℕ → ℤ
-  seconds n = secondsOf s (headerOf s) facts verdicts n
+  seconds n = secondsOf s (headerOf s) facts verdicts n element
 
   pub sum-in-seconds : num (words .w0) ≡ 4 → seconds n ≡ (seconds (num (words .w1)) +ℤ seconds (num (words .w2)))
-  sum-in-seconds k = sum-seconds (status-accepted s a) facts verdicts n l k
+  sum-in-seconds k = sum-seconds (status-accepted s a) facts verdicts n l element k
 
   pub difference-in-seconds : num (words .w0) ≡ 5 → seconds n ≡ (seconds (num (words .w1)) -ℤ seconds (num (words .w2)))
-  difference-in-seconds k = difference-seconds (status-accepted s a) facts verdicts n l k
+  difference-in-seconds k = difference-seconds (status-accepted s a) facts verdicts n l element k
 
   pub comparison-in-seconds : num (words .w0) ≡ 7
-      → truth s (headerOf s) facts verdicts n ≡ holds (num (words .w1)) (seconds (num (words .w2))) (seconds (num (words .w3)))
-  comparison-in-seconds k = comparison-seconds (status-accepted s a) facts verdicts n l k
+      → isTrue (valueOf s (headerOf s) facts verdicts n element) ≡ holds (num (words .w1)) (seconds (num (words .w2))) (seconds (num (words .w3)))
+  comparison-in-seconds k = comparison-seconds (status-accepted s a) facts verdicts n l element k
 
 -- ---- demand 2: the text of a sheet
 
@@ -292,7 +298,22 @@ module _ {s : List ℤ} {flow : ℤ} {path : List ℕ} (u : FlowReady s flow pat
 
 -- Any run that is not refused, whatever its facts and states and whatever its steps want, takes the routes of one of these paths, and answers
 -- that path's terminal and length.
-pub run-takes-listed-path : (s values given states : List ℤ) (flow : ℤ) (wanted : List ℤ) (path : List ℕ)
-    → countedAnswer (runAnswer s values given states flow wanted path) .refusal ≡ pos 0
-    → RanPath s values given states flow wanted path
+pub run-takes-listed-path : (s : List ℤ) (lent : LentFacts) (states : List ℤ) (flow : ℤ) (wanted : List ℤ) (path : List ℕ)
+    → countedAnswer (runAnswer s lent states flow wanted path) .refusal ≡ pos 0
+    → RanPath s lent states flow wanted path
 run-takes-listed-path = ran-path
+
+-- ---- 02, CR 6: lists
+
+module _ (s : List ℤ) (t : LentFacts) (verdicts : List ℤ) (went : statusAnswer (verdictsAnswer s t (length verdicts)) .refusal ≡ pos 0) (k : ℕ)
+    (rule : k < headerOf s .rules) where
+  -- Where the when-node of rule k is a "for all", its verdict is 1 exactly where its body is true at every element that is lent of its list, so
+  -- also where there is none;
+  pub for-all-verdict : num (nodeWords s (headerOf s) (whenNode s (headerOf s) k) .w0) ≡ 14
+      → (getD (verdictsVerdicts s t verdicts) k (pos 0) ≡ pos 1) ↔ ((j : ℕ) → j < elementsOfRule s t k → bodyTrue s t k j ≡ true)
+  for-all-verdict = for-all-lent s t verdicts went k rule
+
+  -- where it is an "exists", exactly where the body is true at some element.
+  pub exists-verdict : num (nodeWords s (headerOf s) (whenNode s (headerOf s) k) .w0) ≡ 15
+      → (getD (verdictsVerdicts s t verdicts) k (pos 0) ≡ pos 1) ↔ ((j : ℕ) × (j < elementsOfRule s t k) × (bodyTrue s t k j ≡ true))
+  exists-verdict = exists-lent s t verdicts went k rule

@@ -28,6 +28,7 @@ use Rattle.layout.specs.declared.Header.{Header}
 use Rattle.layout.specs.Header.{headerOf}
 use Rattle.layout.specs.Tables.{effect, entityOf}
 use Rattle.item.specs.Sorts.{isDuration}
+use Rattle.node.specs.FactValues.{FactValue}
 use Rattle.records.specs.Accept.{checked}
 use Rattle.records.specs.Accepted.{Accepted}
 use Rattle.records.proofs.Acceptance.{accepted}
@@ -43,6 +44,7 @@ use Rattle.operation.proofs.Guarantees.{Fate, moved as Goes, unmoved as Stays, 
 use Rattle.operation.proofs.Choices.{chosen-applies, nothing-place, about-any, about-one}
 use Rattle.operation.proofs.Choices.{word-wanted, word-alone, word-none, word-not, word-several}
 use Rattle.operation.proofs.Blockers.{not-applicable, blocker-exists}
+use Rattle.facts.specs.Lent.{LentFacts}
 use Rattle.facts.specs.Assembled.{assembled}
 use Rattle.predicate.specs.Verdicts.{verdictsOf}
 use Rattle.attempt.proofs.AttemptLaws.{chose-so, outcome-states, refused-states}
@@ -130,22 +132,22 @@ module _ {s : List ℤ} {f : ℤ} {b : List ℕ} (u : FlowReady s f b) where
 
 -- ---- runs
 
-module _ (s values given states : List ℤ) (f : ℤ) (words : List ℤ) (b : List ℕ) where
-  pub ran-path : countedAnswer (runAnswer s values given states f words b) .refusal ≡ pos 0 → RanPath s values given states f words b
+module _ (s : List ℤ) (lent : LentFacts) (states : List ℤ) (f : ℤ) (words : List ℤ) (b : List ℕ) where
+  pub ran-path : countedAnswer (runAnswer s lent states f words b) .refusal ≡ pos 0 → RanPath s lent states f words b
   ran-path e =
-      let w = counted-done (runAnswer s values given states f words b) e in
-      by-all (λ (a : Counted). a ≡ IsCounted (w .0) (w .1) → RanPath s values given states f words b)
-      (runClimb s values given states f words (length b)) NotCounted _
+      let w = counted-done (runAnswer s lent states f words b) e in
+      by-all (λ (a : Counted). a ≡ IsCounted (w .0) (w .1) → RanPath s lent states f words b)
+      (runClimb s lent states f words (length b)) NotCounted _
       (λ r p q. let z : _≡_ {A = ℕ} 0 1 = cc in absurd (omega arith))
-      (λ h p q. took p (run-takes-path s values given states f words b (w .0) (w .1) (w .2)))
+      (λ h p q. took p (run-takes-path s lent states f words b (w .0) (w .1) (w .2)))
       (w .2)
     where
-      took : {h : Header} → runClimb s values given states f words (length b) ≡ At h → TookPath s values given states f words b
-          → RanPath s values given states f words b
+      took : {h : Header} → runClimb s lent states f words (length b) ≡ At h → TookPath s lent states f words b
+          → RanPath s lent states f words b
       took p r =
           let header : headerOf s ≡ r .header = opened-at s refl (r .sheet) .header in
-          let lent = going s values given states f words b refl (under-header s (runRungs s values given states f words (length b)) p) .lent in
-          let whole = path-list s (headerOf s) (lent .sheet) (num f) (lent .flow) .whole in
+          let room = going s lent states f words b refl (under-header s (runRungs s lent states f words (length b)) p) .lent in
+          let whole = path-list s (headerOf s) (room .sheet) (num f) (room .flow) .whole in
           let listed : Among (paths s (headerOf s) (num f)) (r .path) = rw header (r .listed) in
           record {
             path = r .path;
@@ -165,22 +167,22 @@ unfolding by
 kept P (At h) f g old work k x = k h refl x
 kept P (Stopped r) f g old work k x = refl
 
-module _ (s values given states : List ℤ) (f : ℤ) (words : List ℤ) (b : List ℕ) where
+module _ (s : List ℤ) (lent : LentFacts) (states : List ℤ) (f : ℤ) (words : List ℤ) (b : List ℕ) where
   -- no run is refused past the ladder
-  runs : (h : Header) → runClimb s values given states f words (length b) ≡ At h
-      → WasRefused (countedAnswer (ranWalkOver s h values given states (num f) words)) → ⊥
+  runs : (h : Header) → runClimb s lent states f words (length b) ≡ At h
+      → WasRefused (countedAnswer (ranWalkOver s h lent states (num f) words)) → ⊥
   runs h e x =
-      x (ap (λ (a : Counted). countedAnswer a .refusal) (run-listed (runnable (going s values given states f words b refl e) refl refl) words .answers))
+      x (ap (λ (a : Counted). countedAnswer a .refusal) (run-listed (runnable (going s lent states f words b refl e) refl refl) words .answers))
 
-  module _ (x : WasRefused (countedAnswer (runAnswer s values given states f words b))) where
-    pub run-path-kept : runPath s values given states f words b ≡ b
+  module _ (x : WasRefused (countedAnswer (runAnswer s lent states f words b))) where
+    pub run-path-kept : runPath s lent states f words b ≡ b
     run-path-kept =
-        kept (λ (a : Counted). WasRefused (countedAnswer a)) (runClimb s values given states f words (length b)) NotCounted _ b _
+        kept (λ (a : Counted). WasRefused (countedAnswer a)) (runClimb s lent states f words (length b)) NotCounted _ b _
         (λ h e y. absurd (runs h e y)) x
 
-    pub run-states-kept : runStates s values given states f words b ≡ states
+    pub run-states-kept : runStates s lent states f words b ≡ states
     run-states-kept =
-        kept (λ (a : Counted). WasRefused (countedAnswer a)) (runClimb s values given states f words (length b)) NotCounted _ states _
+        kept (λ (a : Counted). WasRefused (countedAnswer a)) (runClimb s lent states f words (length b)) NotCounted _ states _
         (λ h e y. absurd (runs h e y)) x
 
 module _ (s : List ℤ) (f : ℤ) (b : List ℕ) where
@@ -213,14 +215,14 @@ pub write-kept : (words : List ℤ) (text : List ℕ) → WasRefused (countAnswe
 unfolding writeBuffer
 write-kept words text x = filled-kept (writeAnswer words (length text)) (textOf words) text x
 
-pub assemble-kept : (s values given : List ℤ) → WasRefused (statusAnswer (assembleAnswer s values given)) → assembleValues s values given ≡ values
-assemble-kept s values given x =
-    kept (λ (a : Status). WasRefused (statusAnswer a)) (assembleClimb s values given) Refused _ values _ (λ h e y. absurd (y refl)) x
+pub assemble-kept : (s : List ℤ) (lent : LentFacts) → WasRefused (statusAnswer (assembleAnswer s lent)) → assembleValues s lent ≡ lent .values
+assemble-kept s lent x =
+    kept (λ (a : Status). WasRefused (statusAnswer a)) (assembleClimb s lent) Refused _ (lent .values) _ (λ h e y. absurd (y refl)) x
 
-pub verdicts-kept : (s values given verdicts : List ℤ) → WasRefused (statusAnswer (verdictsAnswer s values given (length verdicts)))
-    → verdictsVerdicts s values given verdicts ≡ verdicts
-verdicts-kept s values given verdicts x =
-    kept (λ (a : Status). WasRefused (statusAnswer a)) (verdictsClimb s values given (length verdicts)) Refused _ verdicts _
+pub verdicts-kept : (s : List ℤ) (lent : LentFacts) (verdicts : List ℤ) → WasRefused (statusAnswer (verdictsAnswer s lent (length verdicts)))
+    → verdictsVerdicts s lent verdicts ≡ verdicts
+verdicts-kept s lent verdicts x =
+    kept (λ (a : Status). WasRefused (statusAnswer a)) (verdictsClimb s lent (length verdicts)) Refused _ verdicts _
     (λ h e y. absurd (y refl)) x
 
 -- ---- operations
@@ -244,33 +246,33 @@ fate-after : {s : List ℤ} {h : Header} {states : List ℤ} {o j n : ℕ} {stat
 fate-after {s} {h} {states} {o} {j} {n} (Goes e m q) = moved e (true-moves s h states o j n e m) q
 fate-after {s} {h} {states} {o} {j} {n} (Stays f q) = stayed (λ e t. f e (moves-true s h states o j n e t)) q
 
-module _ (s values given states : List ℤ) (p o v : ℤ) where
-  abbrev facts : List ℤ
-  facts = assembled s (headerOf s) values given
+module _ (s : List ℤ) (lent : LentFacts) (states : List ℤ) (p o v : ℤ) where
+  abbrev facts : List FactValue
+  facts = assembled s (headerOf s) lent
 
   abbrev verdicts : List ℤ
   verdicts = verdictsOf s (headerOf s) facts
 
-  attempt-kept : (h : Header) (c : Count) → attemptedOver s h values given states (num p) (num o) (wantedOf v) ≡ c → WasRefused (countAnswer c)
-      → attemptedStatesOver s h values given states (num p) (num o) (wantedOf v) ≡ states
+  attempt-kept : (h : Header) (c : Count) → attemptedOver s h lent states (num p) (num o) (wantedOf v) ≡ c → WasRefused (countAnswer c)
+      → attemptedStatesOver s h lent states (num p) (num o) (wantedOf v) ≡ states
   attempt-kept h (Is j) q x = absurd (x refl)
   attempt-kept h (NoCount r) q x = refused-states s h _ _ states (num p) (num o) (wantedOf v) r q
 
-  pub operate-kept : WasRefused (countAnswer (operateAnswer s values given states p o v)) → operateStates s values given states p o v ≡ states
+  pub operate-kept : WasRefused (countAnswer (operateAnswer s lent states p o v)) → operateStates s lent states p o v ≡ states
   operate-kept x =
-      kept (λ (a : Count). WasRefused (countAnswer a)) (operateClimb s values given states p o v) NoCount _ states _
-      (λ h e y. attempt-kept h (attemptedOver s h values given states (num p) (num o) (wantedOf v)) refl y) x
+      kept (λ (a : Count). WasRefused (countAnswer a)) (operateClimb s lent states p o v) NoCount _ states _
+      (λ h e y. attempt-kept h (attemptedOver s h lent states (num p) (num o) (wantedOf v)) refl y) x
 
   -- an answer that no rung of the ladder gives is the attempt's
-  past : (c : Count) → ((r : Refusal) → c ≡ NoCount r → 8 < number r) → operateAnswer s values given states p o v ≡ c
-      → Made s values given states p o v × (attemptedOver s (headerOf s) values given states (num p) (num o) (wantedOf v) ≡ c)
+  past : (c : Count) → ((r : Refusal) → c ≡ NoCount r → 8 < number r) → operateAnswer s lent states p o v ≡ c
+      → Made s lent states p o v × (attemptedOver s (headerOf s) lent states (num p) (num o) (wantedOf v) ≡ c)
   past c late q =
       by-all
       (λ (a : Count). a ≡ c
-      → Made s values given states p o v × (attemptedOver s (headerOf s) values given states (num p) (num o) (wantedOf v) ≡ c))
-      (operateClimb s values given states p o v) NoCount _
-      (λ r e a. absurd (omega (arith, operate-early s values given states p o v e, late r (sym a))))
-      (λ h e a. (made s values given states p o v e, worked _ _ refl (made s values given states p o v e) refl ∙ q))
+      → Made s lent states p o v × (attemptedOver s (headerOf s) lent states (num p) (num o) (wantedOf v) ≡ c))
+      (operateClimb s lent states p o v) NoCount _
+      (λ r e a. absurd (omega (arith, operate-early s lent states p o v e, late r (sym a))))
+      (λ h e a. (made s lent states p o v e, worked _ _ refl (made s lent states p o v e) refl ∙ q))
       q
 
   abbrev applies : ℕ → Bool
@@ -282,15 +284,15 @@ module _ (s values given states : List ℤ) (p o v : ℤ) where
   abbrev many : ℕ
   many = outcomes s (headerOf s) (num o)
 
-  pub operated : (j : ℕ) → operateAnswer s values given states p o v ≡ Is j → Operated s values given states p o v j
+  pub operated : (j : ℕ) → operateAnswer s lent states p o v ≡ Is j → Operated s lent states p o v j
   unfolding chosen
   operated j q =
       let k = past (Is j) (λ r e. let z : _≡_ {A = ℕ} 0 1 = cc in absurd (omega arith)) q in
-      let ready = attempt-ready s values given states p o v (k .0) in
+      let ready = attempt-ready s lent states p o v (k .0) in
       let w = chose-so s (headerOf s) facts verdicts states (num p) (num o) (wantedOf v) (Outcome j) (k .1) in
       let c = chosen-applies applies blocks many (wantedOf v) j (w .chosen) in
       let few : j < 2 ^ 63 = omega (arith, c .0, operation-ok (ready .ready .accepted) (num o) (ready .ready .exists) .outcomes-few) in
-      let changed = made-after s values given states p o v (k .0)
+      let changed = made-after s lent states p o v (k .0)
       ∙ outcome-states s (headerOf s) facts verdicts states (num p) (num o) (wantedOf v) j (k .1) in
       record {
         persona = w .allowed;
@@ -317,17 +319,17 @@ module _ (s values given states : List ℤ) (p o v : ℤ) where
             (m .0, true-moves s (headerOf s) states (num o) j (effect s (headerOf s) d .w0) (m .0) (m .1));
       })
 
-  pub eleven : countAnswer (operateAnswer s values given states p o v) .refusal ≡ pos 11
-      → NoneApplies s states o v (countAnswer (operateAnswer s values given states p o v) .place)
+  pub eleven : countAnswer (operateAnswer s lent states p o v) .refusal ≡ pos 11
+      → NoneApplies s states o v (countAnswer (operateAnswer s lent states p o v) .place)
   unfolding chosen
   eleven e =
-      let n = natAbs (countAnswer (operateAnswer s values given states p o v) .place) in
-      let q = count-eleven (operateAnswer s values given states p o v) e in
+      let n = natAbs (countAnswer (operateAnswer s lent states p o v) .place) in
+      let q = count-eleven (operateAnswer s lent states p o v) e in
       let k = past (NoCount (NoOutcome n)) (λ r z. let y : NoOutcome n ≡ r = cc in rw (← y) (omega arith)) q in
       let c = chose-so s (headerOf s) facts verdicts states (num p) (num o) (wantedOf v) (Nothing n) (k .1) .chosen in
-      let w = attempt-ready s values given states p o v (k .0) .ready in
+      let w = attempt-ready s lent states p o v (k .0) .ready in
       let at = nothing-place applies blocks many (wantedOf v) n c in
-      let wanted = word-not applies blocks many v n (asked-wanted s values given states p o v (k .0)) c in
+      let wanted = word-not applies blocks many v n (asked-wanted s lent states p o v (k .0)) c in
       let none = word-none applies blocks many v n c in
       record {
         wanted = wanted;
@@ -339,12 +341,12 @@ module _ (s values given states : List ℤ) (p o v : ℤ) where
             is-blocked w 0 n (at ∙ ap blocks (about-any x)) (none x 0 (operation-ok (w .accepted) (num o) (w .exists) .outcomes));
       }
 
-  pub sixteen : countAnswer (operateAnswer s values given states p o v) .refusal ≡ pos 16 → (v ≡ negsuc 0) × TwoApply s states (num o)
+  pub sixteen : countAnswer (operateAnswer s lent states p o v) .refusal ≡ pos 16 → (v ≡ negsuc 0) × TwoApply s states (num o)
   unfolding chosen
   sixteen e =
       let k =
       past (NoCount ManyOutcomes) (λ r z. let y : ManyOutcomes ≡ r = cc in rw (← y) (omega arith))
-      (count-sixteen (operateAnswer s values given states p o v) e) in
+      (count-sixteen (operateAnswer s lent states p o v) e) in
       let c = chose-so s (headerOf s) facts verdicts states (num p) (num o) (wantedOf v) Several (k .1) .chosen in
       let t = word-several applies blocks many v c in (
         t .0,
@@ -363,7 +365,7 @@ module _ (s values given states : List ℤ) (p o v : ℤ) where
   value (Is n) z = (n, refl)
   value (NoCount r) z = absurd (number-some r z)
 
-  went-with : (j : ℕ) → operateAnswer s values given states p o v ≡ Is j → Went (countAnswer (operateAnswer s values given states p o v)) j
+  went-with : (j : ℕ) → operateAnswer s lent states p o v ≡ Is j → Went (countAnswer (operateAnswer s lent states p o v)) j
   went-with j q = rw q (record { refusal = refl; value = refl })
 
   -- of two applicable outcomes none is the only one
@@ -374,41 +376,41 @@ module _ (s values given states : List ℤ) (p o v : ℤ) where
       omega (arith, t .order)
 
   -- a wanted outcome that is applicable
-  pub wanted-goes : Decided (countAnswer (operateAnswer s values given states p o v)) → (k : ℕ) → v ≡ pos k → applies k ≡ true
-      → Went (countAnswer (operateAnswer s values given states p o v)) k
+  pub wanted-goes : Decided (countAnswer (operateAnswer s lent states p o v)) → (k : ℕ) → v ≡ pos k → applies k ≡ true
+      → Went (countAnswer (operateAnswer s lent states p o v)) k
   wanted-goes d k e t = go d
     where
       wanted : v ≡ negsuc 0 → ⊥
       wanted z = let y : _≡_ {A = ℕ} 0 1 = cc (sym e ∙ z) in omega arith
 
-      go : Decided (countAnswer (operateAnswer s values given states p o v)) → Went (countAnswer (operateAnswer s values given states p o v)) k
+      go : Decided (countAnswer (operateAnswer s lent states p o v)) → Went (countAnswer (operateAnswer s lent states p o v)) k
       go (inl q) =
-          let w = value (operateAnswer s values given states p o v) q in
+          let w = value (operateAnswer s lent states p o v) q in
           let y : k ≡ w .0 = cc (sym e ∙ operated (w .0) (w .1) .wanted wanted) in
           went-with k (w .1 ∙ ap Is (sym y))
       go (inr (inl q)) = absurd (true-false t (rw (e, num-of k) at (eleven q .wanted wanted)))
       go (inr (inr q)) = absurd (wanted (sixteen q .0))
 
   -- with −1, the only one that is
-  pub only-goes : Decided (countAnswer (operateAnswer s values given states p o v)) → v ≡ negsuc 0 → (j : ℕ) → OneApplies s states (num o) j
-      → Went (countAnswer (operateAnswer s values given states p o v)) j
+  pub only-goes : Decided (countAnswer (operateAnswer s lent states p o v)) → v ≡ negsuc 0 → (j : ℕ) → OneApplies s states (num o) j
+      → Went (countAnswer (operateAnswer s lent states p o v)) j
   only-goes d e j r = go d
     where
-      go : Decided (countAnswer (operateAnswer s values given states p o v)) → Went (countAnswer (operateAnswer s values given states p o v)) j
+      go : Decided (countAnswer (operateAnswer s lent states p o v)) → Went (countAnswer (operateAnswer s lent states p o v)) j
       go (inl q) =
-          let w = value (operateAnswer s values given states p o v) q in
+          let w = value (operateAnswer s lent states p o v) q in
           let y : w .0 ≡ j = r .alone (w .0) (operated (w .0) (w .1) .exists) (operated (w .0) (w .1) .applies) in
           went-with j (w .1 ∙ ap Is y)
       go (inr (inl q)) = absurd (true-false (r .applies) (eleven q .none e j (r .exists)))
       go (inr (inr q)) = absurd (two-alone (sixteen q .1) j (r .alone))
 
   -- with −1 and two applicable outcomes, what is decided is 16
-  pub two-sixteen : Decided (countAnswer (operateAnswer s values given states p o v)) → v ≡ negsuc 0 → TwoApply s states (num o)
-      → countAnswer (operateAnswer s values given states p o v) .refusal ≡ pos 16
+  pub two-sixteen : Decided (countAnswer (operateAnswer s lent states p o v)) → v ≡ negsuc 0 → TwoApply s states (num o)
+      → countAnswer (operateAnswer s lent states p o v) .refusal ≡ pos 16
   two-sixteen (inr (inr e)) x t = e
   two-sixteen (inr (inl e)) x t = absurd (true-false (t .other-applies) (eleven e .none x (t .other) (t .exists)))
   two-sixteen (inl e) x t =
-      let k = value (operateAnswer s values given states p o v) e in
+      let k = value (operateAnswer s lent states p o v) e in
       absurd (two-alone t (k .0) (operated (k .0) (k .1) .alone x))
 
 -- ---- S2

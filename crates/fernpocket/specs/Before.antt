@@ -13,7 +13,9 @@ use Rattle.answer.specs.declared.Status.{Status}
 use Rattle.answer.specs.declared.Count.{Count}
 use Rattle.answer.specs.declared.Count.the-variants.{Refused as NoCount}
 use Rattle.layout.specs.declared.Header.{Header}
+use Rattle.node.specs.FactValues.{FactValue}
 use Rattle.records.specs.Operations.{outcomes}
+use Rattle.facts.specs.Lent.{LentFacts}
 use Rattle.facts.specs.Faults.{factsFault}
 use Rattle.facts.specs.Assembled.{assembled}
 use Rattle.predicate.specs.Values.{truth}
@@ -38,27 +40,27 @@ firstApplicable applies n = firstFail (λ j. not (applies j)) 0 n
 unfoldable pub firstChoice : (ℕ → Bool) → ℕ → Choice
 firstChoice applies n = cond (ltb (firstApplicable applies n) n) (Outcome (firstApplicable applies n)) (Nothing 0)
 
-unfoldable pub attemptedBefore : List ℤ → Header → List ℤ → List ℤ → List ℤ → ℕ → ℕ → Count
+unfoldable pub attemptedBefore : List ℤ → Header → List FactValue → List ℤ → List ℤ → ℕ → ℕ → Count
 attemptedBefore s h facts verdicts states p o =
     attemptAnswer (allowed s h o p) (truth s h facts verdicts (precondition s h o)) (firstChoice (applicable s h states o) (outcomes s h o))
 
-unfoldable pub rungsBefore : List ℤ → List ℤ → List ℤ → List ℤ → ℤ → ℤ → Header → Status
-rungsBefore s values given states p o h =
-    rungs (factsLent h values given && matches states (h .entities)) (exists p (h .personas) && exists o (h .operations))
-    (factsFault s h values given)
+unfoldable pub rungsBefore : List ℤ → LentFacts → List ℤ → ℤ → ℤ → Header → Status
+rungsBefore s lent states p o h =
+    rungs (factsLent s h lent && matches states (h .entities)) (exists p (h .personas) && exists o (h .operations))
+    (factsFault s h lent)
     (statesFault s h states)
 
-abbrev pub climbBefore : List ℤ → List ℤ → List ℤ → List ℤ → ℤ → ℤ → Climbed
-climbBefore s values given states p o = climb (opened s) (rungsBefore s values given states p o)
+abbrev pub climbBefore : List ℤ → LentFacts → List ℤ → ℤ → ℤ → Climbed
+climbBefore s lent states p o = climb (opened s) (rungsBefore s lent states p o)
 
-abbrev pub overBefore : List ℤ → Header → List ℤ → List ℤ → List ℤ → ℕ → ℕ → Count
-overBefore s h values given states p o = let facts = assembled s h values given in attemptedBefore s h facts (verdictsOf s h facts) states p o
+abbrev pub overBefore : List ℤ → Header → LentFacts → List ℤ → ℕ → ℕ → Count
+overBefore s h lent states p o = let facts = assembled s h lent in attemptedBefore s h facts (verdictsOf s h facts) states p o
 
-abbrev pub operateBefore : List ℤ → List ℤ → List ℤ → List ℤ → ℤ → ℤ → Count
-operateBefore s values given states p o =
-    by (climbBefore s values given states p o) NoCount (λ h. overBefore s h values given states (num p) (num o))
+abbrev pub operateBefore : List ℤ → LentFacts → List ℤ → ℤ → ℤ → Count
+operateBefore s lent states p o =
+    by (climbBefore s lent states p o) NoCount (λ h. overBefore s h lent states (num p) (num o))
 
-abbrev pub statesBefore : List ℤ → List ℤ → List ℤ → List ℤ → ℤ → ℤ → List ℤ
-statesBefore s values given states p o =
-    left (climbBefore s values given states p o) states
-    (λ h. statesAfter s h states (num o) (overBefore s h values given states (num p) (num o)))
+abbrev pub statesBefore : List ℤ → LentFacts → List ℤ → ℤ → ℤ → List ℤ
+statesBefore s lent states p o =
+    left (climbBefore s lent states p o) states
+    (λ h. statesAfter s h states (num o) (overBefore s h lent states (num p) (num o)))

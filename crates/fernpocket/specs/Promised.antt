@@ -2,7 +2,7 @@
 -- a definition that the contract of an export cites, and a lent buffer is the definition that the contract gives for it.
 -- Assumes nothing.
 use mathlib.Core.Path.{_≡_}
-use mathlib.Core.Bool.{true, false}
+use mathlib.Core.Bool.{Bool, true, false}
 use mathlib.Core.List.{List, [], _∷_}
 use mathlib.Core.Logic.{_⊎_}
 use Prim.Native.Nat.{ℕ, zero, suc, _+_, _≤_, _<_}
@@ -19,9 +19,11 @@ use Rattle.layout.specs.Tables.{effect, entityOf, toOf}
 use Rattle.records.specs.Accept.{tablesOf, goodIn, checked}
 use Rattle.records.specs.Nodes.{nodeWords}
 use Rattle.records.specs.Operations.{outcomes}
+use Rattle.node.specs.Rows.{isTrue}
+use Rattle.facts.specs.Lent.{LentFacts, slotsBefore, lengthLent}
 use Rattle.facts.specs.Assembled.{assembled}
-use Rattle.predicate.specs.Values.{childSort, truth}
-use Rattle.predicate.specs.Verdicts.{verdictsOf}
+use Rattle.predicate.specs.Values.{childSort, valueOf, truth}
+use Rattle.predicate.specs.Verdicts.{whenNode, verdictsOf}
 use Rattle.operation.specs.Mask.{allowed}
 use Rattle.operation.specs.Outcomes.{ofOutcome, moves, applicable}
 use Rattle.attempt.specs.Attempts.{precondition}
@@ -65,13 +67,13 @@ readTo13 s f (suc k) t =
 
 -- a run took the routes of one of the flow's listed paths, which stands in the buffer with 0 past it; the value answered is its terminal, and
 -- the count its length
-pub record RanPath (s values given states : List ℤ) (f : ℤ) (words : List ℤ) (b : List ℕ) : Type 0 where
+pub record RanPath (s : List ℤ) (lent : LentFacts) (states : List ℤ) (f : ℤ) (words : List ℤ) (b : List ℕ) : Type 0 where
   pub path : List ℕ
   pub is : PathOf s (headerOf s) (num f) path
   pub listed : Among (paths s (headerOf s) (num f)) path
-  pub left : runPath s values given states f words b ≡ laid path b
-  pub value : countedAnswer (runAnswer s values given states f words b) .value ≡ pos (terminal s (headerOf s) path)
-  pub long : countedAnswer (runAnswer s values given states f words b) .count ≡ pos (length path)
+  pub left : runPath s lent states f words b ≡ laid path b
+  pub value : countedAnswer (runAnswer s lent states f words b) .value ≡ pos (terminal s (headerOf s) path)
+  pub long : countedAnswer (runAnswer s lent states f words b) .count ≡ pos (length path)
 
 -- ---- operations
 
@@ -98,17 +100,17 @@ pub record OneApplies (s states : List ℤ) (o j : ℕ) : Type 0 where
 
 -- an operation went through with outcome j: the mask has the persona, the precondition is true, j is applicable; it is the wanted outcome,
 -- or with −1 the only one that is applicable; and exactly its effects that start from the present states are applied
-pub record Operated (s values given states : List ℤ) (p o w : ℤ) (j : ℕ) : Type 0 where
+pub record Operated (s : List ℤ) (lent : LentFacts) (states : List ℤ) (p o w : ℤ) (j : ℕ) : Type 0 where
   pub persona : allowed s (headerOf s) (num o) (num p) ≡ true
   pub holds :
-      truth s (headerOf s) (assembled s (headerOf s) values given) (verdictsOf s (headerOf s) (assembled s (headerOf s) values given))
+      truth s (headerOf s) (assembled s (headerOf s) lent) (verdictsOf s (headerOf s) (assembled s (headerOf s) lent))
       (precondition s (headerOf s) (num o)) ≡ true
   pub exists : j < outcomes s (headerOf s) (num o)
   pub applies : applicable s (headerOf s) states (num o) j ≡ true
   pub wanted : (w ≡ negsuc 0 → ⊥) → w ≡ pos j
   pub alone : w ≡ negsuc 0 → (i : ℕ) → i < outcomes s (headerOf s) (num o) → applicable s (headerOf s) states (num o) i ≡ true → i ≡ j
   pub each : (n : ℕ) → n < headerOf s .entities
-      → After s (headerOf s) states (num o) j n (getD (operateStates s values given states p o w) n (pos 0))
+      → After s (headerOf s) states (num o) j n (getD (operateStates s lent states p o w) n (pos 0))
 
 -- 02, CR 2: entity n is the first that blocks outcome j of operation o: an effect of j names it and no effect of j starts from its state; but
 -- for each effect of j before that one, some effect of j starts from the state of the entity that it names
@@ -159,3 +161,16 @@ pub record Pairs (s : List ℤ) (n a b : ℕ) : Type 0 where
 pub record RefusedAt (s : List ℤ) (n : ℕ) : Type 0 where
   pub refusal : statusAnswer (checked s) .refusal ≡ pos 3
   pub place : statusAnswer (checked s) .place ≡ pos (headerOf s .facts + n)
+
+-- ---- 02, CR 6: of a rule whose when-node is a quantifier
+
+-- how many elements are lent of the list that it is over
+abbrev pub elementsOfRule : List ℤ → LentFacts → ℕ → ℕ
+elementsOfRule s t k = num (lengthLent s t (num (nodeWords s (headerOf s) (whenNode s (headerOf s) k) .w1)))
+
+-- its body is true at element j of that list
+abbrev pub bodyTrue : List ℤ → LentFacts → ℕ → ℕ → Bool
+bodyTrue s t k j =
+    let w = nodeWords s (headerOf s) (whenNode s (headerOf s) k) in
+    let facts = assembled s (headerOf s) t in
+    isTrue (valueOf s (headerOf s) facts (verdictsOf s (headerOf s) facts) (num (w .w2)) (getD (t .lists) (slotsBefore s (num (w .w1)) + j) (pos 0)))

@@ -3,6 +3,7 @@ ghost use mathlib.Core.Path.{_≡_};
 ghost use lib.ListN.{length};
 ghost use Rattle.answer.specs.Answers.{statusAnswer, countAnswer, countedAnswer};
 ghost use Rattle.records.specs.Accept.{checked};
+ghost use Rattle.facts.specs.Lent.{lent};
 ghost use Rattle.calls.specs.Evaluation.{assembleAnswer, assembleValues, verdictsAnswer, verdictsVerdicts, operateAnswer, operateStates};
 ghost use Rattle.calls.specs.Flows.{firstAnswer, firstPath, nextAnswer, nextPath, runAnswer, runPath, runStates};
 ghost use Rattle.calls.specs.Reports.{statesAnswer, reachableAnswer, admissibleAnswer, canCauseAnswer, rulesAnswer, stratumAnswer, outcomesAnswer, treeSizeAnswer, depthAnswer};
@@ -42,11 +43,17 @@ pub extern "C" fn fernpocket_write_text(words: &[i64], text: &mut [u8]) -> Answe
 
 // Fact assembly: the defaults are put into the lent values.
 #[no_mangle]
-pub extern "C" fn fernpocket_assemble(sheet: &[i64], values: &mut [i64], given: &[i64]) -> Answer
-    ensures { λ a. ⌜ a ≡ statusAnswer (assembleAnswer (now (sheet .entry)) (now (values .entry)) (now (given .entry))) ⌝ }
-    ensures { λ _. ⌜ now (values .exit) ≡ assembleValues (now (sheet .entry)) (now (values .entry)) (now (given .entry)) ⌝ }
+pub extern "C" fn fernpocket_assemble(
+    sheet: &[i64],
+    values: &mut [i64],
+    given: &[i64],
+    lists: &[i64],
+    lengths: &[i64],
+) -> Answer
+    ensures { λ a. ⌜ a ≡ statusAnswer (assembleAnswer (now (sheet .entry)) (lent (now (values .entry)) (now (given .entry)) (now (lists .entry)) (now (lengths .entry)))) ⌝ }
+    ensures { λ _. ⌜ now (values .exit) ≡ assembleValues (now (sheet .entry)) (lent (now (values .entry)) (now (given .entry)) (now (lists .entry)) (now (lengths .entry))) ⌝ }
 {
-    of_status(evaluate::assemble(sheet, values, given))
+    of_status(evaluate::assemble(sheet, values, given, lists, lengths))
 }
 
 // The verdicts over the lent facts.
@@ -55,12 +62,14 @@ pub extern "C" fn fernpocket_verdicts(
     sheet: &[i64],
     values: &[i64],
     given: &[i64],
+    lists: &[i64],
+    lengths: &[i64],
     verdicts: &mut [i64],
 ) -> Answer
-    ensures { λ a. ⌜ a ≡ statusAnswer (verdictsAnswer (now (sheet .entry)) (now (values .entry)) (now (given .entry)) (length (now (verdicts .entry)))) ⌝ }
-    ensures { λ _. ⌜ now (verdicts .exit) ≡ verdictsVerdicts (now (sheet .entry)) (now (values .entry)) (now (given .entry)) (now (verdicts .entry)) ⌝ }
+    ensures { λ a. ⌜ a ≡ statusAnswer (verdictsAnswer (now (sheet .entry)) (lent (now (values .entry)) (now (given .entry)) (now (lists .entry)) (now (lengths .entry))) (length (now (verdicts .entry)))) ⌝ }
+    ensures { λ _. ⌜ now (verdicts .exit) ≡ verdictsVerdicts (now (sheet .entry)) (lent (now (values .entry)) (now (given .entry)) (now (lists .entry)) (now (lengths .entry))) (now (verdicts .entry)) ⌝ }
 {
-    of_status(evaluate::verdicts(sheet, values, given, verdicts))
+    of_status(evaluate::verdicts(sheet, values, given, lists, lengths, verdicts))
 }
 
 // One operation by a persona, who wants the outcome of that number, or with −1 the only one that is applicable. The number answered is the
@@ -70,15 +79,27 @@ pub extern "C" fn fernpocket_operate(
     sheet: &[i64],
     values: &[i64],
     given: &[i64],
+    lists: &[i64],
+    lengths: &[i64],
     states: &mut [i64],
     persona: i64,
     operation: i64,
     wanted: i64,
 ) -> Answer
-    ensures { λ a. ⌜ a ≡ countAnswer (operateAnswer (now (sheet .entry)) (now (values .entry)) (now (given .entry)) (now (states .entry)) persona operation wanted) ⌝ }
-    ensures { λ _. ⌜ now (states .exit) ≡ operateStates (now (sheet .entry)) (now (values .entry)) (now (given .entry)) (now (states .entry)) persona operation wanted ⌝ }
+    ensures { λ a. ⌜ a ≡ countAnswer (operateAnswer (now (sheet .entry)) (lent (now (values .entry)) (now (given .entry)) (now (lists .entry)) (now (lengths .entry))) (now (states .entry)) persona operation wanted) ⌝ }
+    ensures { λ _. ⌜ now (states .exit) ≡ operateStates (now (sheet .entry)) (lent (now (values .entry)) (now (given .entry)) (now (lists .entry)) (now (lengths .entry))) (now (states .entry)) persona operation wanted ⌝ }
 {
-    of_count(evaluate::operate(sheet, values, given, states, persona, operation, wanted))
+    of_count(evaluate::operate(
+        sheet,
+        values,
+        given,
+        lists,
+        lengths,
+        states,
+        persona,
+        operation,
+        wanted,
+    ))
 }
 
 // One run of a flow, with a wanted word for each of its steps. The numbers answered are the terminal and the path's length.
@@ -87,16 +108,28 @@ pub extern "C" fn fernpocket_run(
     sheet: &[i64],
     values: &[i64],
     given: &[i64],
+    lists: &[i64],
+    lengths: &[i64],
     states: &mut [i64],
     flow: i64,
     wanted: &[i64],
     path: &mut [u16],
 ) -> Answer
-    ensures { λ a. ⌜ a ≡ countedAnswer (runAnswer (now (sheet .entry)) (now (values .entry)) (now (given .entry)) (now (states .entry)) flow (now (wanted .entry)) (now (path .entry))) ⌝ }
-    ensures { λ _. ⌜ now (path .exit) ≡ runPath (now (sheet .entry)) (now (values .entry)) (now (given .entry)) (now (states .entry)) flow (now (wanted .entry)) (now (path .entry)) ⌝ }
-    ensures { λ _. ⌜ now (states .exit) ≡ runStates (now (sheet .entry)) (now (values .entry)) (now (given .entry)) (now (states .entry)) flow (now (wanted .entry)) (now (path .entry)) ⌝ }
+    ensures { λ a. ⌜ a ≡ countedAnswer (runAnswer (now (sheet .entry)) (lent (now (values .entry)) (now (given .entry)) (now (lists .entry)) (now (lengths .entry))) (now (states .entry)) flow (now (wanted .entry)) (now (path .entry))) ⌝ }
+    ensures { λ _. ⌜ now (path .exit) ≡ runPath (now (sheet .entry)) (lent (now (values .entry)) (now (given .entry)) (now (lists .entry)) (now (lengths .entry))) (now (states .entry)) flow (now (wanted .entry)) (now (path .entry)) ⌝ }
+    ensures { λ _. ⌜ now (states .exit) ≡ runStates (now (sheet .entry)) (lent (now (values .entry)) (now (given .entry)) (now (lists .entry)) (now (lengths .entry))) (now (states .entry)) flow (now (wanted .entry)) (now (path .entry)) ⌝ }
 {
-    of_counted(flows::run(sheet, values, given, states, flow, wanted, path))
+    of_counted(flows::run(
+        sheet,
+        values,
+        given,
+        lists,
+        lengths,
+        states,
+        flow,
+        wanted,
+        path,
+    ))
 }
 
 // S6: path 0 of a flow.

@@ -12,7 +12,9 @@ use Rattle.signed.specs.Words.{num}
 use Rattle.answer.specs.declared.Counted.the-variants.{Refused as NoWalk}
 use Rattle.answer.specs.Inner.{SmallCounted}
 use Rattle.layout.specs.declared.Header.{Header}
+use Rattle.node.specs.FactValues.{FactValue}
 use Rattle.records.specs.Accepted.{Accepted}
+use Rattle.facts.specs.Lent.{LentFacts}
 use Rattle.facts.specs.Assembled.{assembled}
 use Rattle.predicate.specs.Verdicts.{verdictsOf}
 use Rattle.predicate.proofs.VerdictLaws.{verdicts-true}
@@ -27,6 +29,7 @@ use Rattle.ladder.specs.declared.Climbed.{Climbed}
 use Rattle.ladder.specs.declared.Climbed.the-variants.{At}
 use Rattle.ladder.specs.Ladder.{opened, exists, matches, factsLent}
 use Rattle.ladder.proofs.ClimbLaws.{passed, climbed-at, opened-at}
+use Rattle.ladder.proofs.LentLaws.{all-lent}
 use Rattle.ladder.proofs.Small.{rungs-small, call-small}
 use Rattle.calls.specs.Flows.{stepsOr, pathLent, wantedLent, flowRungs, flowClimb, firstAnswer, nextAnswer, runRungs, runClimb, runAnswer}
 use Rattle.evaluate.proofs.EvaluateLaws.{known-in, facts-small, states-small}
@@ -63,33 +66,33 @@ flow-lent s f b e q =
     lent f b (opened-at s refl (w .sheet) .sheet) (g .numbers) (g .lengths)
 
 -- a run, of the ladder
-pub going : (s values given states : List ℤ) (f : ℤ) (words : List ℤ) (b : List ℕ) {h : Header} {x : Climbed}
-    → x ≡ runClimb s values given states f words (length b) → x ≡ At h → LentRun s h values given states (num f) words b
+pub going : (s : List ℤ) (t : LentFacts) (states : List ℤ) (f : ℤ) (words : List ℤ) (b : List ℕ) {h : Header} {x : Climbed}
+    → x ≡ runClimb s t states f words (length b) → x ≡ At h → LentRun s h t states (num f) words b
 unfolding runRungs
-going s values given states f words b {h} e q =
-    let w = climbed-at (opened s) (runRungs s values given states f words (length b)) e q in
+going s t states f words b {h} e q =
+    let w = climbed-at (opened s) (runRungs s t states f words (length b)) e q in
     let g = passed (w .clear) in
     let a = opened-at s refl (w .sheet) .sheet in
     let k = and-left (exists f (h .flows)) (goodWords s h (num f) words) (g .numbers) in
-    let y = and-left (factsLent h values given && matches states (h .entities) && wantedLent s h f words) (pathLent s h f (length b)) (g .lengths) in
-    let z = simp tests at (and-left (factsLent h values given && matches states (h .entities)) (wantedLent s h f words) y) in
+    let y = and-left (factsLent s h t && matches states (h .entities) && wantedLent s h f words) (pathLent s h f (length b)) (g .lengths) in
+    let z = simp tests at (and-left (factsLent s h t && matches states (h .entities)) (wantedLent s h f words) y) in
     record {
-      known = record { sheet = a; all-values = z .0 .0; all-given = z .0 .1; faultless = g .facts };
+      known = record { sheet = a; all = all-lent (z .0); faultless = g .facts };
       valid = states-in s h states (z .1) (g .states);
       lent =
           lent f b a k
-          (and-right (factsLent h values given && matches states (h .entities) && wantedLent s h f words) (pathLent s h f (length b)) (g .lengths));
-      wanted = a-word-each s h f words k (and-right (factsLent h values given && matches states (h .entities)) (wantedLent s h f words) y);
+          (and-right (factsLent s h t && matches states (h .entities) && wantedLent s h f words) (pathLent s h f (length b)) (g .lengths));
+      wanted = a-word-each s h f words k (and-right (factsLent s h t && matches states (h .entities)) (wantedLent s h f words) y);
     }
 
 -- and of the work below it
-pub runnable : {s : List ℤ} {h : Header} {values given states facts verdicts : List ℤ} {f : ℕ} {words : List ℤ} {b : List ℕ}
-    → LentRun s h values given states f words b
-    → facts ≡ assembled s h values given → verdicts ≡ verdictsOf s h (assembled s h values given) → Runnable s h facts verdicts states f b
-runnable {s} {h} {values} {given} g e v =
+pub runnable : {s : List ℤ} {h : Header} {t : LentFacts} {states : List ℤ} {facts : List FactValue} {verdicts : List ℤ} {f : ℕ}
+    {words : List ℤ} {b : List ℕ} → LentRun s h t states f words b
+    → facts ≡ assembled s h t → verdicts ≡ verdictsOf s h (assembled s h t) → Runnable s h facts verdicts states f b
+runnable {s} {h} {t} g e v =
     record {
       known = rw e (known-in (g .known));
-      judged = rw v (verdicts-true s h (assembled s h values given));
+      judged = rw v (verdicts-true s h (assembled s h t));
       valid = g .valid;
       lent = g .lent;
     }
@@ -109,9 +112,10 @@ module _ (s : List ℤ) (f : ℤ) (b : List ℕ) where
       call-small SmallCounted NoWalk _ (λ r p. p) s (flowRungs s f (length b)) (λ h e. rungs-small _ _ _ _ tt tt)
       (λ h e. let k = flow-lent s f b refl e in next-small (k .sheet) (k .flow) b)
 
-pub run-call-small : (s values given states : List ℤ) (f : ℤ) (words : List ℤ) (b : List ℕ) → SmallCounted (runAnswer s values given states f words b)
+pub run-call-small : (s : List ℤ) (t : LentFacts) (states : List ℤ) (f : ℤ) (words : List ℤ) (b : List ℕ)
+    → SmallCounted (runAnswer s t states f words b)
 unfolding runRungs
-run-call-small s values given states f words b =
-    call-small SmallCounted NoWalk _ (λ r p. p) s (runRungs s values given states f words (length b))
-    (λ h e. rungs-small _ _ _ _ (facts-small s values given h e) (states-small s values given states h e))
-    (λ h e. run-small (runnable (going s values given states f words b refl e) refl refl) words)
+run-call-small s t states f words b =
+    call-small SmallCounted NoWalk _ (λ r p. p) s (runRungs s t states f words (length b))
+    (λ h e. rungs-small _ _ _ _ (facts-small s t h e) (states-small s t states h e))
+    (λ h e. run-small (runnable (going s t states f words b refl e) refl refl) words)

@@ -14,6 +14,7 @@ use Rattle.answer.specs.declared.Counted.{Counted}
 use Rattle.answer.specs.declared.Counted.the-variants.{Is as Walked, Refused as NoWalk}
 use Rattle.answer.specs.declared.Status.the-variants.{Done}
 use Rattle.layout.specs.declared.Header.{Header}
+use Rattle.facts.specs.Lent.{LentFacts}
 use Rattle.facts.specs.Assembled.{assembled}
 use Rattle.predicate.specs.Verdicts.{verdictsOf}
 use Rattle.walks.specs.Paths.{stepsOf, paths}
@@ -120,24 +121,24 @@ module _ {s : List ℤ} {h : Header} {f : ℤ} {b : List ℕ} (u : Listable s h 
 -- ---- runs
 
 -- any run that is not refused, whatever its facts and states and whatever its steps want, takes one of the listed paths
-pub run-takes-path : (s values given states : List ℤ) (f : ℤ) (words : List ℤ) (b : List ℕ) (t n : ℕ)
-    → runAnswer s values given states f words b ≡ Walked t n → TookPath s values given states f words b
+pub run-takes-path : (s : List ℤ) (t : LentFacts) (states : List ℤ) (f : ℤ) (words : List ℤ) (b : List ℕ) (end n : ℕ)
+    → runAnswer s t states f words b ≡ Walked end n → TookPath s t states f words b
 unfolding ranPath
-run-takes-path s values given states f words b t n =
-    by-all (λ (a : Counted). a ≡ Walked t n → TookPath s values given states f words b) (runClimb s values given states f words (length b)) NoWalk _
+run-takes-path s t states f words b end n =
+    by-all (λ (a : Counted). a ≡ Walked end n → TookPath s t states f words b) (runClimb s t states f words (length b)) NoWalk _
     (λ r p e. let z : _≡_ {A = ℕ} 0 1 = cc in absurd (omega arith))
     (λ h p e. took h p)
   where
-    took : (h : Header) → runClimb s values given states f words (length b) ≡ At h → TookPath s values given states f words b
+    took : (h : Header) → runClimb s t states f words (length b) ≡ At h → TookPath s t states f words b
     took h p =
-        let w = climbed-at (opened s) (runRungs s values given states f words (length b)) refl p in
-        let facts = assembled s h values given in
-        let r = run-listed (runnable (going s values given states f words b refl p) refl refl) words in
+        let w = climbed-at (opened s) (runRungs s t states f words (length b)) refl p in
+        let facts = assembled s h t in
+        let r = run-listed (runnable (going s t states f words b refl p) refl refl) words in
         record {
           header = h;
           sheet = w .sheet;
           path = ran s h facts (verdictsOf s h facts) states (num f) (wantedAt s h (num f) words) .path;
           listed = r .listed;
-          left = climbs (runRungs s values given states f words (length b)) _ _ (w .sheet) (w .clear);
-          answers = climbs (runRungs s values given states f words (length b)) _ _ (w .sheet) (w .clear) ∙ r .answers;
+          left = climbs (runRungs s t states f words (length b)) _ _ (w .sheet) (w .clear);
+          answers = climbs (runRungs s t states f words (length b)) _ _ (w .sheet) (w .clear) ∙ r .answers;
         }

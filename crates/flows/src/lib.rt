@@ -4,6 +4,7 @@ ghost use lib.ListN.{length};
 ghost use mathlib.Core.Bool.{true, _&&_};
 ghost use Rattle.signed.specs.Words.{num};
 ghost use Rattle.records.specs.Accepted.{Accepted};
+ghost use Rattle.facts.specs.Lent.{lent};
 ghost use Rattle.run.specs.Runs.{goodWords};
 ghost use Rattle.ladder.specs.Ladder.{exists};
 ghost use Rattle.calls.specs.Flows.{stepsOr, wantedLent, flowClimb, firstAnswer, firstPath, nextAnswer, nextPath};
@@ -78,6 +79,8 @@ fn go_on(
     h: Header,
     values: &[i64],
     given: &[i64],
+    lists: &[i64],
+    lengths: &[i64],
     facts: &mut [i64],
     verdicts: &mut [i64],
     states: &mut [i64],
@@ -85,14 +88,14 @@ fn go_on(
     wanted: &[i64],
     path: &mut [u16],
 ) -> Counted
-    requires { ⌜ LentRun (now s) h (now values) (now given) (now states) (flow .0) (now wanted) (now path) ⌝ }
+    requires { ⌜ LentRun (now s) h (lent (now values) (now given) (now lists) (now lengths)) (now states) (flow .0) (now wanted) (now path) ⌝ }
     requires { ⌜ (length (now facts) ≡ h .facts) × (length (now verdicts) ≡ h .rules) ⌝ }
-    ensures { λ r. ⌜ r ≡ ranWalkOver (now (s .entry)) h (now (values .entry)) (now (given .entry)) (now (states .entry)) (flow .0) (now (wanted .entry)) ⌝ }
-    ensures { λ r. ⌜ now (path .exit) ≡ ranPathOver (now (s .entry)) h (now (values .entry)) (now (given .entry)) (now (states .entry)) (flow .0) (now (wanted .entry)) (now (path .entry)) ⌝ }
-    ensures { λ r. ⌜ now (states .exit) ≡ ranStatesOver (now (s .entry)) h (now (values .entry)) (now (given .entry)) (now (states .entry)) (flow .0) (now (wanted .entry)) ⌝ }
+    ensures { λ r. ⌜ r ≡ ranWalkOver (now (s .entry)) h (lent (now (values .entry)) (now (given .entry)) (now (lists .entry)) (now (lengths .entry))) (now (states .entry)) (flow .0) (now (wanted .entry)) ⌝ }
+    ensures { λ r. ⌜ now (path .exit) ≡ ranPathOver (now (s .entry)) h (lent (now (values .entry)) (now (given .entry)) (now (lists .entry)) (now (lengths .entry))) (now (states .entry)) (flow .0) (now (wanted .entry)) (now (path .entry)) ⌝ }
+    ensures { λ r. ⌜ now (states .exit) ≡ ranStatesOver (now (s .entry)) h (lent (now (values .entry)) (now (given .entry)) (now (lists .entry)) (now (lengths .entry))) (now (states .entry)) (flow .0) (now (wanted .entry)) ⌝ }
 {
-    settle(s, h, values, given, facts, verdicts);
-    run::run(s, h, facts, verdicts, states, flow, wanted, path)
+    settle(s, h, values, given, lists, lengths, facts, verdicts);
+    run::run(s, h, facts, lists, verdicts, states, flow, wanted, path)
 }
 
 fn go(
@@ -100,15 +103,17 @@ fn go(
     h: Header,
     values: &[i64],
     given: &[i64],
+    lists: &[i64],
+    lengths: &[i64],
     states: &mut [i64],
     flow: Flow,
     wanted: &[i64],
     path: &mut [u16],
 ) -> Counted
-    requires { ⌜ LentRun (now s) h (now values) (now given) (now states) (flow .0) (now wanted) (now path) ⌝ }
-    ensures { λ r. ⌜ r ≡ ranWalkOver (now (s .entry)) h (now (values .entry)) (now (given .entry)) (now (states .entry)) (flow .0) (now (wanted .entry)) ⌝ }
-    ensures { λ r. ⌜ now (path .exit) ≡ ranPathOver (now (s .entry)) h (now (values .entry)) (now (given .entry)) (now (states .entry)) (flow .0) (now (wanted .entry)) (now (path .entry)) ⌝ }
-    ensures { λ r. ⌜ now (states .exit) ≡ ranStatesOver (now (s .entry)) h (now (values .entry)) (now (given .entry)) (now (states .entry)) (flow .0) (now (wanted .entry)) ⌝ }
+    requires { ⌜ LentRun (now s) h (lent (now values) (now given) (now lists) (now lengths)) (now states) (flow .0) (now wanted) (now path) ⌝ }
+    ensures { λ r. ⌜ r ≡ ranWalkOver (now (s .entry)) h (lent (now (values .entry)) (now (given .entry)) (now (lists .entry)) (now (lengths .entry))) (now (states .entry)) (flow .0) (now (wanted .entry)) ⌝ }
+    ensures { λ r. ⌜ now (path .exit) ≡ ranPathOver (now (s .entry)) h (lent (now (values .entry)) (now (given .entry)) (now (lists .entry)) (now (lengths .entry))) (now (states .entry)) (flow .0) (now (wanted .entry)) (now (path .entry)) ⌝ }
+    ensures { λ r. ⌜ now (states .exit) ≡ ranStatesOver (now (s .entry)) h (lent (now (values .entry)) (now (given .entry)) (now (lists .entry)) (now (lengths .entry))) (now (states .entry)) (flow .0) (now (wanted .entry)) ⌝ }
 {
     let mut facts = [0i64; Header::FACTS];
     let mut verdicts = [0i64; Header::RULES];
@@ -119,6 +124,8 @@ fn go(
         h,
         values,
         given,
+        lists,
+        lengths,
         &mut facts[..n],
         &mut verdicts[..m],
         states,
@@ -148,24 +155,26 @@ fn climb_run(
     s: &[i64],
     values: &[i64],
     given: &[i64],
+    lists: &[i64],
+    lengths: &[i64],
     states: &[i64],
     flow: i64,
     wanted: &[i64],
     room: usize,
 ) -> Climbed
-    ensures { λ c. ⌜ c ≡ runClimb (now (s .entry)) (now (values .entry)) (now (given .entry)) (now (states .entry)) flow (now (wanted .entry)) room ⌝ }
+    ensures { λ c. ⌜ c ≡ runClimb (now (s .entry)) (lent (now (values .entry)) (now (given .entry)) (now (lists .entry)) (now (lengths .entry))) (now (states .entry)) flow (now (wanted .entry)) room ⌝ }
 {
     match open_sheet(s) {
         Climbed::Stopped(r) => Climbed::Stopped(r),
         Climbed::At(h) => {
             let n = wanted.len();
-            let long = facts_lent(h, values, given)
+            let long = facts_lent(s, h, values, given, lists, lengths)
                 & (states.len() == h.entities)
                 & (n == steps_or(s, h, flow, n))
                 & (steps_or(s, h, flow, room) <= room);
             let known = run_named(s, h, flow, wanted, long);
             let t = judge_call(long, known);
-            let u = then_facts(t, s, h, values, given);
+            let u = then_facts(t, s, h, values, given, lists, lengths);
             reached(then_states(u, s, h, states), h)
         }
     }
@@ -176,17 +185,40 @@ pub fn run(
     s: &[i64],
     values: &[i64],
     given: &[i64],
+    lists: &[i64],
+    lengths: &[i64],
     states: &mut [i64],
     flow: i64,
     wanted: &[i64],
     path: &mut [u16],
 ) -> Counted
-    ensures { λ r. ⌜ r ≡ runAnswer (now (s .entry)) (now (values .entry)) (now (given .entry)) (now (states .entry)) flow (now (wanted .entry)) (now (path .entry)) ⌝ }
-    ensures { λ r. ⌜ now (path .exit) ≡ runPath (now (s .entry)) (now (values .entry)) (now (given .entry)) (now (states .entry)) flow (now (wanted .entry)) (now (path .entry)) ⌝ }
-    ensures { λ r. ⌜ now (states .exit) ≡ runStates (now (s .entry)) (now (values .entry)) (now (given .entry)) (now (states .entry)) flow (now (wanted .entry)) (now (path .entry)) ⌝ }
+    ensures { λ r. ⌜ r ≡ runAnswer (now (s .entry)) (lent (now (values .entry)) (now (given .entry)) (now (lists .entry)) (now (lengths .entry))) (now (states .entry)) flow (now (wanted .entry)) (now (path .entry)) ⌝ }
+    ensures { λ r. ⌜ now (path .exit) ≡ runPath (now (s .entry)) (lent (now (values .entry)) (now (given .entry)) (now (lists .entry)) (now (lengths .entry))) (now (states .entry)) flow (now (wanted .entry)) (now (path .entry)) ⌝ }
+    ensures { λ r. ⌜ now (states .exit) ≡ runStates (now (s .entry)) (lent (now (values .entry)) (now (given .entry)) (now (lists .entry)) (now (lengths .entry))) (now (states .entry)) flow (now (wanted .entry)) (now (path .entry)) ⌝ }
 {
-    match climb_run(s, values, given, states, flow, wanted, path.len()) {
+    match climb_run(
+        s,
+        values,
+        given,
+        lists,
+        lengths,
+        states,
+        flow,
+        wanted,
+        path.len(),
+    ) {
         Climbed::Stopped(r) => Counted::Refused(r),
-        Climbed::At(h) => go(s, h, values, given, states, Flow(num(flow)), wanted, path),
+        Climbed::At(h) => go(
+            s,
+            h,
+            values,
+            given,
+            lists,
+            lengths,
+            states,
+            Flow(num(flow)),
+            wanted,
+            path,
+        ),
     }
 }

@@ -1,3 +1,4 @@
 pub mod KindLaws
 pub mod SecondsLaws
+pub mod SweepLaws
 pub mod TakenLaws

@@ -24,6 +24,7 @@ use Rattle.item.specs.Units.{factor, shared, converted}
 use Rattle.item.proofs.Units.{factor-least, shared-low, converted-low, converted-on, converted-size, converted-most}
 use Rattle.item.proofs.Products.{multiple-sort}
 use Rattle.node.specs.declared.Given.{Given}
+use Rattle.node.specs.FactValues.{FactValue}
 use Rattle.node.specs.Rows.{Row, rowOf, bit, isTrue, sums, differences, product, comparison, conjunction, disjunction, negated}
 use Rattle.node.specs.Judged.{seen}
 use Rattle.kinds.specs.Inner.{leafOf, secondsFrom, Wide}
@@ -83,19 +84,19 @@ module _ (a b : ℕ) (x y : ℤ) (p : a ≤ 261) (q : b ≤ 261) where
 
 abbrev Settled : Row → Type 0
 Settled r =
-    (g : Given) (facts verdicts : List ℤ) (a b : ℕ) (x y : ℤ) → a ≤ 261 → b ≤ 261 → g .x .sort ≡ shared a b → g .y .sort ≡ shared b a
-    → r .takes g ≡ true
-    → converted (r .gives g .sort) 261 (r .value (seen (g .words) facts verdicts (converted a b x) (converted b a y)))
-    ≡ converted (r .gives (leafOf (g .words) (g .fact .sort)) .sort) 261
-    (r .value (seen (g .words) facts verdicts (converted a 261 x) (converted b 261 y)))
+    (g : Given) (facts : List FactValue) (verdicts : List ℤ) (i : ℤ) (a b : ℕ) (x y : ℤ) (body : ℤ → ℤ) → a ≤ 261 → b ≤ 261
+    → g .x .sort ≡ shared a b → g .y .sort ≡ shared b a → r .takes g ≡ true
+    → converted (r .gives g .sort) 261 (r .value (seen (g .words) facts verdicts i (converted a b x) (converted b a y) body))
+    ≡ converted (r .gives (leafOf (g .words) (g .fact .item .sort)) .sort) 261
+    (r .value (seen (g .words) facts verdicts i (converted a 261 x) (converted b 261 y) body))
 
 sums-settled : Settled sums
-sums-settled g u v a b x y p q ex ey t =
+sums-settled g u v i a b x y d p q ex ey t =
     let e = sym ex ∙ eqb-true _ _ (and-left (eqb (g .x .sort) (g .y .sort)) (isNumber (g .x .sort)) t) ∙ ey in
     rw ex (both-added a b x y p q e) ∙ sym (converted-low 0 261 _ (omega arith))
 
 differences-settled : Settled differences
-differences-settled g u v a b x y p q ex ey t =
+differences-settled g u v i a b x y d p q ex ey t =
     let e = sym ex ∙ eqb-true _ _ (and-left (eqb (g .x .sort) (g .y .sort)) (isNumber (g .x .sort)) t) ∙ ey in
     rw ex (both-taken a b x y p q e) ∙ sym (converted-low 0 261 _ (omega arith))
 
@@ -106,15 +107,15 @@ plain a b t x e l =
     converted-low a b x z ∙ sym (converted-low a 261 x z)
 
 product-settled : Settled product
-product-settled g u v a b x y p q ex ey t =
+product-settled g u v i a b x y d p q ex ey t =
     let n = g .words .w2 in
     let one = eqb-true (g .x .sort) 1 (and-right (bounded n) (eqb (g .x .sort) 1) t) in
     converted-low _ 261 _ (omega (arith, multiple-sort n (g .x), one))
     ∙ ap (λ (z : ℤ). z *ℤ n) (plain a b (g .x .sort) x ex (omega (arith, one)))
-    ∙ sym (converted-low _ 261 _ (omega (arith, multiple-sort n (leafOf (g .words) (g .fact .sort) .x))))
+    ∙ sym (converted-low _ 261 _ (omega (arith, multiple-sort n (leafOf (g .words) (g .fact .item .sort) .x))))
 
 comparison-settled : Settled comparison
-comparison-settled g u v a b x y p q ex ey t =
+comparison-settled g u v i a b x y d p q ex ey t =
     let op = num (g .words .w1) in
     let e =
     sym ex
@@ -132,61 +133,64 @@ bools-plain g a b x y ex ey t = (
 )
 
 conjunction-settled : Settled conjunction
-conjunction-settled g u v a b x y p q ex ey t =
+conjunction-settled g u v i a b x y d p q ex ey t =
     let z = bools-plain g a b x y ex ey t in
     ap₂ (λ (x y : ℤ). converted 0 261 (bit (isTrue x && isTrue y))) (z .0) (z .1)
 
 disjunction-settled : Settled disjunction
-disjunction-settled g u v a b x y p q ex ey t =
+disjunction-settled g u v i a b x y d p q ex ey t =
     let z = bools-plain g a b x y ex ey t in
     ap₂ (λ (x y : ℤ). converted 0 261 (bit (isTrue x || isTrue y))) (z .0) (z .1)
 
 negated-settled : Settled negated
-negated-settled g u v a b x y p q ex ey t =
+negated-settled g u v i a b x y d p q ex ey t =
     ap (λ (x : ℤ). converted 0 261 (bit (not (isTrue x)))) (plain a b (g .x .sort) x ex (omega (arith, eqb-true (g .x .sort) 0 t)))
 
 settled : (k : ℕ) → Settled (rowOf k)
 settled =
     every Settled
-    ((λ g u v a b x y p q ex ey t. refl) ▹ (λ g u v a b x y p q ex ey t. refl) ▹ (λ g u v a b x y p q ex ey t. refl)
-    ▹ (λ g u v a b x y p q ex ey t. refl) ▹ sums-settled ▹ differences-settled ▹ product-settled ▹ comparison-settled
-    ▹ (λ g u v a b x y p q ex ey t. refl) ▹ conjunction-settled ▹ disjunction-settled ▹ negated-settled
-    ▹ (λ g u v a b x y p q ex ey t. refl) ▹ (λ g u v a b x y p q ex ey t. refl) ▹ end)
-    (λ g u v a b x y p q ex ey t. absurd (true-false t refl))
+    ((λ g u v i a b x y d p q ex ey t. refl) ▹ (λ g u v i a b x y d p q ex ey t. refl) ▹ (λ g u v i a b x y d p q ex ey t. refl)
+    ▹ (λ g u v i a b x y d p q ex ey t. refl) ▹ sums-settled ▹ differences-settled ▹ product-settled ▹ comparison-settled
+    ▹ (λ g u v i a b x y d p q ex ey t. refl) ▹ conjunction-settled ▹ disjunction-settled ▹ negated-settled
+    ▹ (λ g u v i a b x y d p q ex ey t. refl) ▹ (λ g u v i a b x y d p q ex ey t. refl) ▹ (λ g u v i a b x y d p q ex ey t. refl)
+    ▹ (λ g u v i a b x y d p q ex ey t. refl) ▹ (λ g u v i a b x y d p q ex ey t. refl) ▹ (λ g u v i a b x y d p q ex ey t. refl) ▹ end)
+    (λ g u v i a b x y d p q ex ey t. absurd (true-false t refl))
 
 -- the value of a node in seconds, from those of its children
-pub seconds-from : (k : ℕ) (g : Given) (facts verdicts : List ℤ) (a b : ℕ) (x y : ℤ) → a ≤ 261 → b ≤ 261 → g .x .sort ≡ shared a b
-    → g .y .sort ≡ shared b a → rowOf k .takes g ≡ true
-    → converted (rowOf k .gives g .sort) 261 (rowOf k .value (seen (g .words) facts verdicts (converted a b x) (converted b a y)))
-    ≡ secondsFrom k (g .words) (g .fact .sort) facts verdicts (converted a 261 x) (converted b 261 y)
+pub seconds-from : (k : ℕ) (g : Given) (facts : List FactValue) (verdicts : List ℤ) (e : ℤ) (a b : ℕ) (x y : ℤ) (body : ℤ → ℤ) → a ≤ 261
+    → b ≤ 261 → g .x .sort ≡ shared a b → g .y .sort ≡ shared b a → rowOf k .takes g ≡ true
+    → converted (rowOf k .gives g .sort) 261 (rowOf k .value (seen (g .words) facts verdicts e (converted a b x) (converted b a y) body))
+    ≡ secondsFrom k (g .words) (g .fact .item .sort) facts verdicts e (converted a 261 x) (converted b 261 y) body
 unfolding secondsFrom
 seconds-from k = settled k
 
 -- the value as it stands, where the node is no duration or has children
-pub settle : {r : ℤ} (k : ℕ) (w : Words) (f : ℕ) (facts verdicts : List ℤ) (x y : ℤ) → rowOf k .gives (leafOf w f) .sort < 258
-    → r ≡ rowOf k .value (seen w facts verdicts x y) → r ≡ secondsFrom k w f facts verdicts x y
+pub settle : {r : ℤ} (k : ℕ) (w : Words) (f : ℕ) (facts : List FactValue) (verdicts : List ℤ) (e x y : ℤ) (body : ℤ → ℤ)
+    → rowOf k .gives (leafOf w f) .sort < 258 → r ≡ rowOf k .value (seen w facts verdicts e x y body)
+    → r ≡ secondsFrom k w f facts verdicts e x y body
 unfolding secondsFrom
-settle k w f facts verdicts x y l e = e ∙ sym (converted-low _ 261 _ l)
+settle k w f facts verdicts e x y b l p = p ∙ sym (converted-low _ 261 _ l)
 
 -- where the first child decides, it is the value
-pub decided-seconds : (k : ℕ) (w : Words) (f : ℕ) (facts verdicts : List ℤ) (x y : ℤ) → rowOf k .decides x ≡ true
-    → secondsFrom k w f facts verdicts x y ≡ x
+pub decided-seconds : (k : ℕ) (w : Words) (f : ℕ) (facts : List FactValue) (verdicts : List ℤ) (e x y : ℤ) (body : ℤ → ℤ)
+    → rowOf k .decides x ≡ true → secondsFrom k w f facts verdicts e x y body ≡ x
 unfolding secondsFrom
-decided-seconds k w f facts verdicts x y d =
-    converted-low _ 261 _ (omega (arith, decided-bool k (leafOf w f) x d)) ∙ decided k w facts verdicts x y d
+decided-seconds k w f facts verdicts e x y b d =
+    converted-low _ 261 _ (omega (arith, decided-bool k (leafOf w f) x d)) ∙ decided k w facts verdicts e x y b d
 
 -- what a node has to work out is no larger
-pub value-wide : (k : ℕ) (w : Words) (f : ℕ) (facts verdicts : List ℤ) (x y : ℤ)
-    → Wide (secondsFrom k w f facts verdicts x y) → Wide (rowOf k .value (seen w facts verdicts x y))
+pub value-wide : (k : ℕ) (w : Words) (f : ℕ) (facts : List FactValue) (verdicts : List ℤ) (e x y : ℤ) (body : ℤ → ℤ)
+    → Wide (secondsFrom k w f facts verdicts e x y body) → Wide (rowOf k .value (seen w facts verdicts e x y body))
 unfolding secondsFrom
-value-wide k w f facts verdicts x y h =
+value-wide k w f facts verdicts e x y b h =
+    let v = rowOf k .value (seen w facts verdicts e x y b) in
     record {
       wide = omega (
         arith,
         h .wide,
-        size-abs (rowOf k .value (seen w facts verdicts x y)),
-        size-abs (secondsFrom k w f facts verdicts x y),
-        converted-size (rowOf k .gives (leafOf w f) .sort) 261 (rowOf k .value (seen w facts verdicts x y)),
+        size-abs v,
+        size-abs (secondsFrom k w f facts verdicts e x y b),
+        converted-size (rowOf k .gives (leafOf w f) .sort) 261 v,
       );
     }
 

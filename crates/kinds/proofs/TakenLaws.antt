@@ -33,7 +33,11 @@ part-taken (suc (suc (suc (suc (suc (suc (suc (suc (suc (suc zero)))))))))) g p 
 part-taken (suc (suc (suc (suc (suc (suc (suc (suc (suc (suc (suc zero))))))))))) g p e = absurd (true-false e refl)
 part-taken (suc (suc (suc (suc (suc (suc (suc (suc (suc (suc (suc (suc zero)))))))))))) g p e = literal-part 3 _ _ 130 127 g p
 part-taken (suc (suc (suc (suc (suc (suc (suc (suc (suc (suc (suc (suc (suc zero))))))))))))) g p e = omega (arith, literal-part 3 _ _ 258 3 g p)
-part-taken (suc (suc (suc (suc (suc (suc (suc (suc (suc (suc (suc (suc (suc (suc k)))))))))))))) g p e = absurd (true-false p refl)
+part-taken (suc (suc (suc (suc (suc (suc (suc (suc (suc (suc (suc (suc (suc (suc zero)))))))))))))) g p e = absurd (true-false e refl)
+part-taken (suc (suc (suc (suc (suc (suc (suc (suc (suc (suc (suc (suc (suc (suc (suc zero))))))))))))))) g p e = absurd (true-false e refl)
+part-taken (suc (suc (suc (suc (suc (suc (suc (suc (suc (suc (suc (suc (suc (suc (suc (suc zero)))))))))))))))) g p e = absurd (true-false e refl)
+part-taken (suc (suc (suc (suc (suc (suc (suc (suc (suc (suc (suc (suc (suc (suc (suc (suc (suc zero))))))))))))))))) g p e = absurd (true-false e refl)
+part-taken (suc (suc (suc (suc (suc (suc (suc (suc (suc (suc (suc (suc (suc (suc (suc (suc (suc (suc k)))))))))))))))))) g p e = absurd (true-false p refl)
 
 -- a product's literal lies in −M..M
 pub product-part : (k : ℕ) (g : Given) → rowOf k .takes g ≡ true → k ≡ 6 → bounded (g .words .w2) ≡ true

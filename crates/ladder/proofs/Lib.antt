@@ -1,2 +1,3 @@
 pub mod ClimbLaws
 pub mod Small
+pub mod LentLaws

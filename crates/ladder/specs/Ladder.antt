@@ -15,6 +15,7 @@ use Rattle.answer.specs.declared.Status.the-variants.{Done, Refused}
 use Rattle.layout.specs.declared.Header.{Header}
 use Rattle.layout.specs.Header.{headerOf}
 use Rattle.records.specs.Accept.{checked}
+use Rattle.facts.specs.Lent.{LentFacts, slotsBefore, lengthsBefore}
 use Rattle.ladder.specs.declared.Climbed.{Climbed}
 use Rattle.ladder.specs.declared.Climbed.the-variants.{At, Stopped}
 
@@ -65,6 +66,10 @@ exists x n = ltb (num x) n
 abbrev pub matches : List ℤ → ℕ → Bool
 matches t n = eqb (length t) n
 
--- "values, given flags .. match the header's counts exactly"
-abbrev pub factsLent : Header → List ℤ → List ℤ → Bool
-factsLent h values given = matches values (h .facts) && matches given (h .facts)
+-- "values, given flags .. match the header's counts exactly"; 02, CR 6, of lists and their lengths: "other totals: 4"
+unfoldable pub factsLent : List ℤ → Header → LentFacts → Bool
+factsLent s h t =
+    matches (t .values) (h .facts)
+    && matches (t .given) (h .facts)
+    && matches (t .lists) (slotsBefore s (h .facts))
+    && matches (t .lengths) (lengthsBefore s (h .facts))

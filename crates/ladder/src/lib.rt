@@ -7,12 +7,14 @@ ghost use Rattle.records.specs.Accept.{checked};
 ghost use Rattle.records.specs.Accepted.{Accepted};
 ghost use Rattle.answer.specs.declared.Status.the-variants.{Done};
 ghost use Rattle.answer.specs.declared.Refusal.the-variants.{Length, Missing};
+ghost use Rattle.facts.specs.Lent.{lent};
 ghost use Rattle.facts.specs.Faults.{factsFault};
 ghost use Rattle.operation.specs.States.{statesFault};
 ghost use Rattle.ladder.specs.Ladder.{then, unless, reached, opened, exists, factsLent};
 use answer::Refusal;
 use answer::Status;
 use facts::judge_facts;
+use facts::used_by_all;
 use layout::Header;
 use operation::judge_states;
 use sheet::check;
@@ -68,11 +70,23 @@ pub fn judge_call(lengths: bool, numbers: bool) -> Status
     then_unless(unless(lengths, Refusal::Length), numbers, Refusal::Missing)
 }
 
-// Whether the lent values and flags are as many as the facts.
-pub fn facts_lent(h: Header, values: &[i64], given: &[i64]) -> bool
-    ensures { λ b. ⌜ b ≡ factsLent h (now (values .entry)) (now (given .entry)) ⌝ }
+// Whether the lent values and flags are as many as the facts, and the lists and their lengths as many as the facts use.
+pub fn facts_lent(
+    s: &[i64],
+    h: Header,
+    values: &[i64],
+    given: &[i64],
+    lists: &[i64],
+    lengths: &[i64],
+) -> bool
+    requires { ⌜ Accepted (now s) h ⌝ }
+    ensures { λ b. ⌜ b ≡ factsLent (now (s .entry)) h (lent (now (values .entry)) (now (given .entry)) (now (lists .entry)) (now (lengths .entry))) ⌝ }
 {
-    (values.len() == h.facts) & (given.len() == h.facts)
+    let used = used_by_all(s, h);
+    (values.len() == h.facts)
+        & (given.len() == h.facts)
+        & (lists.len() == used.slots)
+        & (lengths.len() == used.lengths)
 }
 
 // Whether a number that a caller names is one of n.
@@ -83,14 +97,22 @@ pub fn exists(x: i64, n: usize) -> bool
 }
 
 // Refusals 6 and 7, after the rungs so far.
-pub fn then_facts(t: Status, s: &[i64], h: Header, values: &[i64], given: &[i64]) -> Status
+pub fn then_facts(
+    t: Status,
+    s: &[i64],
+    h: Header,
+    values: &[i64],
+    given: &[i64],
+    lists: &[i64],
+    lengths: &[i64],
+) -> Status
     requires { ⌜ Accepted (now s) h ⌝ }
-    requires { ⌜ (t ≡ Done → factsLent h (now values) (now given) ≡ true) ⌝ }
-    ensures { λ x. ⌜ x ≡ then t (factsFault (now (s .entry)) h (now (values .entry)) (now (given .entry))) ⌝ }
+    requires { ⌜ (t ≡ Done → factsLent (now s) h (lent (now values) (now given) (now lists) (now lengths)) ≡ true) ⌝ }
+    ensures { λ x. ⌜ x ≡ then t (factsFault (now (s .entry)) h (lent (now (values .entry)) (now (given .entry)) (now (lists .entry)) (now (lengths .entry)))) ⌝ }
 {
     match t {
         Status::Refused(r) => Status::Refused(r),
-        Status::Done => judge_facts(s, h, values, given),
+        Status::Done => judge_facts(s, h, values, given, lists, lengths),
     }
 }
 

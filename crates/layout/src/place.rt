@@ -11,6 +11,10 @@ pub const FACT_DEFAULT: usize = 4;
 
 pub const FACT_SET: usize = 5;
 
+pub const FACT_ELEMENT_TYPE: usize = 6;
+
+pub const FACT_LARGEST: usize = 7;
+
 pub const NODE_KIND: usize = 0;
 
 pub const RULE_STRATUM: usize = 0;

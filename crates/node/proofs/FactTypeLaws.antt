@@ -2,7 +2,7 @@
 -- Assumes nothing.
 use mathlib.Core.Path.{_≡_, refl}
 use mathlib.Core.Bool.{true, _&&_}
-use Prim.Native.Nat.{ℕ, zero, suc, _+_, _≤_}
+use Prim.Native.Nat.{ℕ, zero, suc, _+_, _≤_, _<_}
 use lib.IntN.{ℤ, pos}
 use lib.Signed.{leZ}
 use lib.ListN.{List·getD-eq-default}
@@ -80,3 +80,11 @@ fact-bounds (suc (suc (suc (suc (suc k))))) = unknown-lawful
 pub type-past : (k : ℕ) → 5 ≤ k → factTypeOf k ≡ unknownFact
 unfolding factTypeOf
 type-past k h = List·getD-eq-default (boolFact ∷ intFact ∷ enumFact ∷ moneyFact ∷ durationFact ∷ []) unknownFact h
+
+-- Bool, Int and Enum are no durations
+pub plain-sort : (k t : ℕ) → k ≤ 2 → t ≤ 127 → factTypeOf k .sort t < 258
+unfolding factTypeOf
+plain-sort zero t l m = omega arith
+plain-sort (suc zero) t l m = omega arith
+plain-sort (suc (suc zero)) t l m = omega arith
+plain-sort (suc (suc (suc k))) t l m = absurd (omega arith)

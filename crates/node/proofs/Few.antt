@@ -17,7 +17,7 @@ use Rattle.node.specs.Rows.{Row, literal, rowOf}
 
 -- the types of the fact and of the first child are at most m, and so is the node's
 abbrev Few : ℕ → Row → Type 0
-Few m r = (g : Given) → g .fact .sort ≤ m → g .x .sort ≤ m → r .takes g ≡ true → r .gives g .sort ≤ m
+Few m r = (g : Given) → g .fact .item .sort ≤ m → g .x .sort ≤ m → r .takes g ≡ true → r .gives g .sort ≤ m
 
 literal-few : (u : ℕ) (l h : ℤ) (t p m : ℕ) → t + p ≤ m → Few m (literal u l h t p)
 literal-few u l h t p m b g f x e =
@@ -40,4 +40,8 @@ sort-few (suc (suc (suc (suc (suc (suc (suc (suc (suc (suc zero)))))))))) = λ g
 sort-few (suc (suc (suc (suc (suc (suc (suc (suc (suc (suc (suc zero))))))))))) = λ g f x e. omega arith
 sort-few (suc (suc (suc (suc (suc (suc (suc (suc (suc (suc (suc (suc zero)))))))))))) = literal-few 3 _ _ 130 127 261 (omega arith)
 sort-few (suc (suc (suc (suc (suc (suc (suc (suc (suc (suc (suc (suc (suc zero))))))))))))) = literal-few 3 _ _ 258 3 261 (omega arith)
-sort-few (suc (suc (suc (suc (suc (suc (suc (suc (suc (suc (suc (suc (suc (suc k)))))))))))))) = λ g f x e. absurd (true-false e refl)
+sort-few (suc (suc (suc (suc (suc (suc (suc (suc (suc (suc (suc (suc (suc (suc zero)))))))))))))) = λ g f x e. omega arith
+sort-few (suc (suc (suc (suc (suc (suc (suc (suc (suc (suc (suc (suc (suc (suc (suc zero))))))))))))))) = λ g f x e. omega arith
+sort-few (suc (suc (suc (suc (suc (suc (suc (suc (suc (suc (suc (suc (suc (suc (suc (suc zero)))))))))))))))) = λ g f x e. omega arith
+sort-few (suc (suc (suc (suc (suc (suc (suc (suc (suc (suc (suc (suc (suc (suc (suc (suc (suc zero))))))))))))))))) = λ g f x e. f
+sort-few (suc (suc (suc (suc (suc (suc (suc (suc (suc (suc (suc (suc (suc (suc (suc (suc (suc (suc k)))))))))))))))))) = λ g f x e. absurd (true-false e refl)

@@ -41,7 +41,7 @@ pub past : (n k : ℕ) → Past n k → n ≤ k
 past zero k p = zero-le
 past (suc n) k p = up (past n k (p .0)) (p .1)
 
-pub row-past : (k : ℕ) → 14 ≤ k → rowOf k ≡ unknown
+pub row-past : (k : ℕ) → 18 ≤ k → rowOf k ≡ unknown
 unfolding rowOf
 row-past k h = List·getD-eq-default rows unknown h
 

@@ -4,3 +4,4 @@ pub mod Lawful
 pub mod FactTypeLaws
 pub mod Few
 pub mod OneKind
+pub mod OverLists

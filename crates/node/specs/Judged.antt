@@ -11,6 +11,7 @@ use Rattle.item.specs.Inner.{Small}
 use Rattle.node.specs.declared.Given.{Given}
 use Rattle.node.specs.declared.Judgement.{Judgement}
 use Rattle.node.specs.declared.Kids.{Kids}
+use Rattle.node.specs.FactValues.{FactValue}
 use Rattle.node.specs.Rows.{Row, Seen, fits, converts}
 
 abbrev pub bad : Judgement
@@ -42,5 +43,5 @@ abbrev pub kids : Kids → List ℕ
 kids r = upTo (r .count) (r .first) (r .second)
 
 -- what a value is worked out from, part by part
-abbrev pub seen : Words → List ℤ → List ℤ → ℤ → ℤ → Seen
-seen w facts verdicts x y = record { words = w; facts = facts; verdicts = verdicts; x = x; y = y }
+abbrev pub seen : Words → List FactValue → List ℤ → ℤ → ℤ → ℤ → (ℤ → ℤ) → Seen
+seen w facts verdicts e x y body = record { words = w; facts = facts; verdicts = verdicts; element = e; x = x; y = y; body = body }

@@ -1,3 +1,4 @@
 pub mod FactTypes
+pub mod FactValues
 pub mod Rows
 pub mod Judged

@@ -1,11 +1,12 @@
--- 01, "Node", "Types" and "Every node has a value range", and 02, CR 4: one row for each kind. Two durations come to a row in one unit.
+-- 01, "Node", "Types" and "Every node has a value range", and 02, CR 4 and CR 6: one row for each kind. Two durations come to a row in one unit.
 -- Assumes nothing.
 use Prim.Native.Nat.{ℕ, _+_}
 use lib.IntN.{ℤ, pos, negℤ, _+ℤ_, _-ℤ_, _*ℤ_}
 use mathlib.Core.Bool.{Bool, true, false, not, _&&_, _||_}
 use mathlib.Core.List.{List, [], _∷_}
-use lib.ListN.{getD}
+use lib.ListN.{getD, length}
 use lib.Dec.{leb, ltb, eqb}
+use Rattle.tables.specs.Lists.{allOf, anyOf}
 use Rattle.signed.specs.Words.{eqZ, within, bounded, big, num}
 use Rattle.signed.specs.Compare.{holds}
 use Rattle.words.specs.declared.Words.{Words}
@@ -14,19 +15,25 @@ use Rattle.item.specs.declared.Item.{Item}
 use Rattle.item.specs.Sorts.{isNumber}
 use Rattle.item.specs.Items.{span, none, small, sum, difference, multiple, compared, both, either, negation}
 use Rattle.node.specs.declared.Given.{Given}
+use Rattle.node.specs.FactValues.{FactValue, noValue, valueIn, elementsIn}
 
--- what a node's value is worked out from: its words, the facts, the verdicts, and the converted values of its children, 0 where there is none
+-- what a node's value is worked out from: its words, the facts, the verdicts, the element at which it is asked for, and the converted values of
+-- its children there, 0 where there is none; of the first child also its value at any element
 pub record Seen : Type 0 where
   pub words : Words
-  pub facts : List ℤ
+  pub facts : List FactValue
   pub verdicts : List ℤ
+  pub element : ℤ
   pub x : ℤ
   pub y : ℤ
+  pub body : ℤ → ℤ
 
 pub record Row : Type 0 where
   pub used : ℕ  -- how many words it has; the others are 0
   pub children : Words → List ℕ  -- the nodes that it names
   pub cites : Words → List ℕ  -- the rules that it cites
+  pub elements : Words → List ℕ  -- the lists whose element it cites
+  pub binds : Words → List ℕ  -- the list that it is a quantifier over
   pub takes : Given → Bool  -- its words are in their ranges, what it names exists, its children are of the types that it takes
   pub gives : Given → Item  -- its type and value range
   pub decides : ℤ → Bool  -- the first child's value is the node's, whatever the second is
@@ -48,6 +55,8 @@ leaf used cites takes gives value =
       used = used;
       children = λ w. [];
       cites = cites;
+      elements = λ w. [];
+      binds = λ w. [];
       takes = takes;
       gives = gives;
       decides = λ x. false;
@@ -67,6 +76,8 @@ single used takes gives value =
       used = used;
       children = λ w. num (w .w1) ∷ [];
       cites = λ w. [];
+      elements = λ w. [];
+      binds = λ w. [];
       takes = takes;
       gives = gives;
       decides = λ x. false;
@@ -80,6 +91,8 @@ pair takes gives decides value =
       used = 3;
       children = λ w. num (w .w1) ∷ num (w .w2) ∷ [];
       cites = λ w. [];
+      elements = λ w. [];
+      binds = λ w. [];
       takes = λ g. takes (g .x) (g .y);
       gives = λ g. gives (g .x) (g .y);
       decides = decides;
@@ -99,6 +112,34 @@ bools x y = eqb (x .sort) 0 && eqb (y .sort) 0
 abbrev pub comparable : ℕ → Item → Item → Bool
 comparable op x y = leb op 5 && eqb (x .sort) (y .sort) && (ltb op 2 || isNumber (x .sort))
 
+-- ---- the fact in word 1
+
+-- there is such a fact
+abbrev pub namesFact : Given → Bool
+namesFact g = ltb (num (g .words .w1)) (g .facts)
+
+-- 02, CR 6: "the fact is a list"
+abbrev pub namesList : Given → Bool
+namesList g = namesFact g && g .fact .list
+
+abbrev pub factSeen : Seen → FactValue
+factSeen s = getD (s .facts) (num (s .words .w1)) noValue
+
+-- 02, CR 6: a quantifier over the list in word 1, its body in word 2: the test of the body over the list's elements. Its range is 0..1
+abbrev pub quantifier : ((ℤ → Bool) → List ℤ → Bool) → Row
+quantifier over =
+    record {
+      used = 3;
+      children = λ w. num (w .w2) ∷ [];
+      cites = λ w. [];
+      elements = λ w. [];
+      binds = λ w. num (w .w1) ∷ [];
+      takes = λ g. namesList g && eqb (g .x .sort) 0;
+      gives = λ g. span 0 (pos 0) (pos 1);
+      decides = λ x. false;
+      value = λ s. bit (over (λ e. isTrue (s .body e)) (elementsIn (factSeen s)));
+    }
+
 -- ---- the rows
 
 -- 0 Int literal v (−M..M)
@@ -113,10 +154,9 @@ boolLiteral = literal 2 (pos 0) (pos 1) 0 0
 abbrev pub enumLiteral : Row
 enumLiteral = literal 3 (pos 0) (pos 255) 2 127
 
--- 3 fact: its type is the fact's, its range min..max
+-- 3 fact: its type is the fact's, its range min..max; 02: "no kind 3 names" a list
 abbrev pub factNamed : Row
-factNamed =
-    leaf 2 (λ w. []) (λ g. ltb (num (g .words .w1)) (g .facts)) (λ g. g .fact) (λ s. getD (s .facts) (num (s .words .w1)) (pos 0))
+factNamed = leaf 2 (λ w. []) (λ g. namesFact g && not (g .fact .list)) (λ g. g .fact .item) (λ s. valueIn (factSeen s))
 
 -- 4 sum of two nodes
 abbrev pub sums : Row
@@ -138,6 +178,8 @@ comparison =
       used = 4;
       children = λ w. num (w .w2) ∷ num (w .w3) ∷ [];
       cites = λ w. [];
+      elements = λ w. [];
+      binds = λ w. [];
       takes = λ g. comparable (num (g .words .w1)) (g .x) (g .y);
       gives = λ g. compared (num (g .words .w1)) (g .x) (g .y);
       decides = λ x. false;
@@ -168,15 +210,43 @@ moneyLiteral = literal 3 (negℤ (pos big)) (pos big) 130 127
 abbrev pub durationLiteral : Row
 durationLiteral = literal 3 (negℤ (pos big)) (pos big) 258 3
 
+-- 14 "for all": true of an empty list
+abbrev pub forAll : Row
+forAll = quantifier allOf
+
+-- 15 "exists": false of an empty list
+abbrev pub exists : Row
+exists = quantifier anyOf
+
+-- 16 the list's length, an Int of range 0..largest
+abbrev pub listLength : Row
+listLength =
+    leaf 2 (λ w. []) namesList (λ g. span 1 (pos 0) (g .fact .most)) (λ s. pos (length (elementsIn (factSeen s))))
+
+-- 17 the list's element in a body: of the elements' type, its range min..max
+abbrev pub listElement : Row
+listElement =
+    record {
+      used = 2;
+      children = λ w. [];
+      cites = λ w. [];
+      elements = λ w. num (w .w1) ∷ [];
+      binds = λ w. [];
+      takes = namesList;
+      gives = λ g. g .fact .item;
+      decides = λ x. false;
+      value = λ s. s .element;
+    }
+
 -- "a kind not listed makes its record bad"
 abbrev pub unknown : Row
 unknown = leaf 0 (λ w. []) (λ g. false) (λ g. none) (λ s. pos 0)
 
--- the kinds 0 to 13, in order
+-- the kinds 0 to 17, in order
 abbrev pub rows : List Row
 rows =
     intLiteral ∷ boolLiteral ∷ enumLiteral ∷ factNamed ∷ sums ∷ differences ∷ product ∷ comparison ∷ present ∷ conjunction ∷ disjunction ∷ negated
-    ∷ moneyLiteral ∷ durationLiteral ∷ []
+    ∷ moneyLiteral ∷ durationLiteral ∷ forAll ∷ exists ∷ listLength ∷ listElement ∷ []
 
 unfoldable pub rowOf : ℕ → Row
 rowOf k = getD rows k unknown

@@ -1,4 +1,4 @@
-// A node by its kind: one arm for each of the kinds 0 to 13, as its row in specs/Rows.antt says.
+// A node by its kind: one arm for each of the kinds 0 to 17, as its row in specs/Rows.antt says.
 ghost use mathlib.Core.Path.{_≡_};
 ghost use mathlib.Core.Bool.{_&&_};
 ghost use mathlib.Core.List.{[], _∷_};
@@ -25,13 +25,20 @@ use words::Words;
 use words::numbers_of;
 use words::unused;
 
-// What a node is worked out from: its words, how many facts and rules there are, the type and range of the fact that it names, and those of
-// its children, converted.
+// The fact that a node names: the type and range of its value or, where it is a list, of its elements, and the list's largest length.
+pub struct Named {
+    pub item: Item,
+    pub list: bool,
+    pub most: i64,
+}
+
+// What a node is worked out from: its words, how many facts and rules there are, the fact that it names, and the types and ranges of its
+// children, converted.
 pub struct Given {
     pub words: Words,
     pub facts: usize,
     pub rules: usize,
-    pub fact: Item,
+    pub fact: Named,
     pub x: Item,
     pub y: Item,
 }
@@ -112,12 +119,28 @@ fn literal(g: Given, used: usize, low: i64, high: i64, t: usize, m: usize) -> Ju
     }
 }
 
+// Whether there is a fact of the number in word 1.
+fn names_fact(g: Given) -> bool
+    ensures { λ r. ⌜ r ≡ rows.namesFact g ⌝ }
+{
+    let w = g.words;
+    num(w.w1) < g.facts
+}
+
+// And it is a list.
+fn names_list(g: Given) -> bool
+    ensures { λ r. ⌜ r ≡ rows.namesList g ⌝ }
+{
+    let f = g.fact;
+    names_fact(g) & f.list
+}
+
 fn fact_named(g: Given) -> Judgement
     ensures { λ r. ⌜ r ≡ judged.judged rows.factNamed g ⌝ }
 {
-    let w = g.words;
     let f = g.fact;
-    checked(2, g, num(w.w1) < g.facts, f)
+    let x = f.item;
+    checked(2, g, names_fact(g) & !f.list, x)
 }
 
 fn sums(g: Given) -> Judgement
@@ -195,6 +218,29 @@ fn negated(g: Given) -> Judgement
     checked(2, g, x.sort == 0, negation(x))
 }
 
+// "For all" and "exists" are judged alike.
+fn quantifier(g: Given) -> Judgement
+    ensures { λ r. ⌜ r ≡ judged.judged rows.forAll g ⌝ }
+{
+    let x = g.x;
+    checked(3, g, names_list(g) & (x.sort == 0), span(0, 0, 1))
+}
+
+fn list_length(g: Given) -> Judgement
+    ensures { λ r. ⌜ r ≡ judged.judged rows.listLength g ⌝ }
+{
+    let f = g.fact;
+    checked(2, g, names_list(g), span(1, 0, f.most))
+}
+
+fn list_element(g: Given) -> Judgement
+    ensures { λ r. ⌜ r ≡ judged.judged rows.listElement g ⌝ }
+{
+    let f = g.fact;
+    let x = f.item;
+    checked(2, g, names_list(g), x)
+}
+
 // A node of kind number k that has no children. Apart from the others, for speed: half of a sheet's nodes have none.
 pub fn judge_leaf(k: usize, g: Given) -> Judgement
     requires { ⌜ rows.rowOf k .children (g .words) ≡ [] ⌝ }
@@ -210,7 +256,10 @@ pub fn judge_leaf(k: usize, g: Given) -> Judgement
         9..=11 => bad(),
         12 => literal(g, 3, -1_000_000_000, 1_000_000_000, 130, 127),
         13 => literal(g, 3, -1_000_000_000, 1_000_000_000, 258, 3),
-        14.. => bad(),
+        14..=15 => bad(),
+        16 => list_length(g),
+        17 => list_element(g),
+        18.. => bad(),
     }
 }
 
@@ -229,7 +278,10 @@ fn judge_by_kind(k: usize, g: Given) -> Judgement
         9 => conjunction(g),
         10 => disjunction(g),
         11 => negated(g),
-        12.. => bad(),
+        12..=13 => bad(),
+        14 => quantifier(g),
+        15 => quantifier(g),
+        16.. => bad(),
     }
 }
 
@@ -264,6 +316,17 @@ fn one_kid(w: Words) -> Kids
     Kids {
         count: 1,
         first: num(w.w1),
+        second: 0,
+    }
+}
+
+// The child in word 2.
+fn later_kid(w: Words) -> Kids
+    ensures { λ r. ⌜ judged.kids r ≡ (wordNumber (w .w2) ∷ []) ⌝ }
+{
+    Kids {
+        count: 1,
+        first: num(w.w2),
         second: 0,
     }
 }
@@ -309,6 +372,8 @@ pub fn children(k: usize, w: Words) -> Kids
         11 => one_kid(w),
         12 => no_kids(),
         13 => no_kids(),
-        14.. => no_kids(),
+        14 => later_kid(w),
+        15 => later_kid(w),
+        16.. => no_kids(),
     }
 }

@@ -1,6 +1,7 @@
-pub mod BaseLaws
 pub mod ValueLaws
+pub mod BaseLaws
 pub mod EvaluationLaws
 pub mod VerdictLaws
 pub mod RangeLaws
 pub mod UnitLaws
+pub mod QuantifierLaws

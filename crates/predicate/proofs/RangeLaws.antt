@@ -6,16 +6,21 @@ use mathlib.Core.List.{List, [], _∷_}
 use mathlib.Core.Logic.{_↔_, Iff·trans}
 use Prim.Native.Nat.{ℕ, _+_, _<_}
 use lib.IntN.{ℤ, pos}
+use lib.Dec.{ltb}
+use lib.ListN.{getD, length}
+use borrow.Author.Tests.{ltb-true}
 use native.Mathlib.Omega.{arith}
 use Rattle.tables.specs.Table.{grown, entry}
 use Rattle.tables.specs.Lists.{pick}
 use Rattle.tables.proofs.Lists.{Before, pick-all}
-use Rattle.tables.proofs.Grown.{length-grown, grown-at}
+use Rattle.tables.proofs.Bools.{and-left, and-right}
+use Rattle.tables.proofs.Grown.{grown-at, strong}
 use Rattle.signed.specs.Compare.{canHold, canFail}
 use Rattle.signed.specs.Inner.{Pair}
 use Rattle.signed.proofs.Parts.{Le}
 use Rattle.signed.proofs.Order.{le-refl}
-use Rattle.signed.proofs.Bounds.{true-in}
+use Rattle.signed.proofs.Bounds.{In}
+use Rattle.signed.proofs.Numbers.{num-is, num-in}
 use Rattle.signed.proofs.Pairs.{can-hold, can-fail}
 use Rattle.signed.specs.Words.{num, bounded, within}
 use Rattle.layout.specs.declared.Header.{Header}
@@ -26,21 +31,20 @@ use Rattle.item.proofs.Units.{align-order}
 use Rattle.item.specs.Inner.{Small}
 use Rattle.node.specs.declared.Given.{Given}
 use Rattle.node.specs.declared.Kids.{Kids}
-use Rattle.node.specs.Rows.{Row, comparison, rowOf, fits}
+use Rattle.node.specs.FactValues.{FactValue, Single, Listed, noValue, valueIn, elementsIn}
+use Rattle.node.specs.Rows.{Row, namesFact, comparison, rowOf, fits}
 use Rattle.node.specs.Judged.{SmallKids, kids}
+use Rattle.node.proofs.Lawful.{Of, Known, align-of, lawful}
 use Rattle.records.specs.Accepted.{Accepted}
-use Rattle.records.specs.Facts.{minOf}
-use Rattle.records.specs.Nodes.{nodeWords, nodeRow, childrenOf, namedFact, givenOf, itemOf}
+use Rattle.records.specs.Facts.{isList, minOf, largestOf, factItem}
+use Rattle.records.specs.Nodes.{nodeWords, nodeRow, childrenOf, namedFact, childItem, givenOf, itemOf}
 use Rattle.records.proofs.FactLaws.{fact-ok}
 use Rattle.records.proofs.NodeLaws.{NodeOk, node-ok}
-use Rattle.facts.specs.Inner.{FactsIn}
-use Rattle.predicate.specs.Verdicts.{verdictsOf}
 use Rattle.tree.specs.Inner.{rowAt, childrenAt, BaseOf}
 use Rattle.predicate.specs.Base.{givenAt, Rangeable, RangeAt}
 use Rattle.tree.proofs.TreeLaws.{none-named, one-named, two-named}
 use Rattle.predicate.proofs.BaseLaws.{ranged}
-use Rattle.predicate.proofs.ValueLaws.{Within, value-in}
-use Rattle.predicate.proofs.VerdictLaws.{verdicts-true}
+use Rattle.predicate.proofs.ValueLaws.{Within, none-of}
 
 -- a "pair of values from the two ranges", whose comparison comes to t
 abbrev pub PairIn : ℕ → Bool → Item → Item → Type 0
@@ -68,23 +72,80 @@ module _ (op : ℕ) (x y : Item) (p : Le (x .low) (x .high)) (q : Le (y .low) (y
   compared-zero = Iff·trans (has-zero _ (canHold op (x .low) (x .high) (y .low) (y .high))) (can-fail op p q)
 
 module _ {s : List ℤ} {h : Header} (a : Accepted s h) where
-  -- every fact at its min
-  abbrev least : List ℤ
-  least = grown (λ _ k. minOf s k) (pos 0) (h .facts)
+  -- a value that a fact's range has: its min
+  least-of : (k : ℕ) → k < h .facts → Of (factItem s k) (minOf s k)
+  least-of k l =
+      let o = fact-ok s k (a .facts k l) .bounds in
+      record { inside = record { low = le-refl (minOf s k); high = o .order }; bool = λ e. rw (o .bool e .0) (omega arith) }
 
-  least-in : FactsIn s h least
+  named-least : (k : ℕ) → ltb k (h .facts) ≡ true → Of (namedFact s (h .facts) k .item) (minOf s k)
+  named-least k e = rw e (least-of k (ltb-true k (h .facts) e))
+
+  largest-in : (k : ℕ) → k < h .facts → isList s k ≡ true → In (pos 0) (pos 0) (largestOf s k)
+  largest-in k l p =
+      let m = fact-ok s k (a .facts k l) .largest p in
+      subst (λ (z : ℤ). In (pos 0) (pos 0) z) (sym (num-is (largestOf s k) (omega arith))) (num-in (omega arith) (omega arith))
+
+  -- every fact at its min; a list is empty
+  abbrev least : List FactValue
+  least = grown (λ _ k. cond (isList s k) (Listed []) (Single (minOf s k))) noValue (h .facts)
+
+  least-at : (k : ℕ) → k < h .facts → getD least k noValue ≡ cond (isList s k) (Listed []) (Single (minOf s k))
   unfolding entry
-  least-in =
+  least-at k l = grown-at (λ _ k. cond (isList s k) (Listed []) (Single (minOf s k))) noValue (h .facts) k l
+
+  least-single : (k : ℕ) → k < h .facts → isList s k ≡ false → getD least k noValue ≡ Single (minOf s k)
+  least-single k l p = least-at k l ∙ rw p
+
+  least-listed : (k : ℕ) → k < h .facts → isList s k ≡ true → getD least k noValue ≡ Listed []
+  least-listed k l p = least-at k l ∙ rw p
+
+  named-count : (k : ℕ) → ltb k (h .facts) ≡ true → isList s k ≡ true
+      → In (pos 0) (pos (length (elementsIn (getD least k noValue)))) (namedFact s (h .facts) k .most)
+  named-count k e p =
+      let l = ltb-true k (h .facts) e in
+      subst (λ (x : FactValue). In (pos 0) (pos (length (elementsIn x))) (namedFact s (h .facts) k .most)) (sym (least-listed k l p))
+      (rw e (largest-in k l p))
+
+  least-known : (n : ℕ) → n < h .nodes → Before n (childrenOf s h n) → (v w : ℤ) → Of (givenOf s h (itemOf s h) n .x) v
+      → Of (givenOf s h (itemOf s h) n .y) w
+      → Known (nodeRow s h n) (givenOf s h (itemOf s h) n) least [] (minOf s (num (nodeWords s h n .w1))) v w
+  least-known n l b v w p q =
+      let k = num (nodeWords s h n .w1) in
+      let g = givenOf s h (itemOf s h) n in
       record {
-        long = length-grown (λ _ k. minOf s k) (pos 0) (h .facts);
-        each =
-            λ k l. rw (grown-at (λ _ k. minOf s k) (pos 0) (h .facts) k l)
-            (true-in _ _ _ (record { low = le-refl (minOf s k); high = fact-ok s k (a .facts k l) .bounds .order }));
+        fact = λ e m.
+            subst (λ (x : FactValue). Of (g .fact .item) (valueIn x)) (sym (least-single k (ltb-true k (h .facts) e) (rw e at m))) (named-least k e);
+        count = λ e. let t = and-left (namesFact g) (g .fact .list) e in
+            named-count k t (rw t at (and-right (namesFact g) (g .fact .list) e));
+        verdict = omega arith;
+        element = λ e m. named-least k (and-left (namesFact g) (g .fact .list) e);
+        x = λ u. p;
+        y = λ u. q;
       }
+
+  of-item : {x y : Item} {v : ℤ} → x ≡ y → Of y v → (v : ℤ) × Of x v
+  of-item {x} {y} {v} e p = (v, subst (λ (z : Item). Of z v) (sym e) p)
+
+  -- every node's range has a value
+  some-step : (n : ℕ) → ((j : ℕ) → j < n → j < h .nodes → (v : ℤ) × Of (itemOf s h j) v) → n < h .nodes → (v : ℤ) × Of (itemOf s h n) v
+  some-step n ih l =
+      let o = node-ok s h n (a .nodes n l) in
+      let kid : (i : ℕ) → (v : ℤ) × Of (childItem s h (itemOf s h) n i) v =
+      λ i. pick-all (λ (x : Item). (v : ℤ) × Of x v) (itemOf s h) none n (childrenOf s h n) i (pos 0, none-of)
+      (λ j q. ih j q (omega arith)) (o .before) in
+      let x = kid 0 in
+      let y = kid 1 in
+      let p = align-of (childItem s h (itemOf s h) n 0) (childItem s h (itemOf s h) n 1) (x .0) (x .1) in
+      let q = align-of (childItem s h (itemOf s h) n 1) (childItem s h (itemOf s h) n 0) (y .0) (y .1) in
+      of-item (o .item) (lawful _ (givenOf s h (itemOf s h) n) least [] _ _ _ (λ _. pos 0) (least-known n l (o .before) _ _ p q) (o .takes))
+
+  some-value : (n : ℕ) → n < h .nodes → (v : ℤ) × Of (itemOf s h n) v
+  some-value = strong (λ (n : ℕ). n < h .nodes → (v : ℤ) × Of (itemOf s h n) v) some-step
 
   -- 01: "Every node has a value range": one that is not empty
   pub range-some : (n : ℕ) → n < h .nodes → Le (itemOf s h n .low) (itemOf s h n .high)
-  range-some n l = omega (arith, value-in s h least (verdictsOf s h least) a least-in (verdicts-true s h least) n l)
+  range-some n l = let v = some-value n l .1 .inside in omega (arith, v .low, v .high)
 
   module _ (n : ℕ) (l : n < h .nodes) (k : num (nodeWords s h n .w0) ≡ 7) where
     -- the operator and the children of a comparison, each converted to the unit that it shares with the other

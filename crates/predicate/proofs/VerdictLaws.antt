@@ -1,6 +1,6 @@
 -- The verdicts: each is 1 or 0, and is judged by the facts and by verdicts of lower stratum alone.
 -- Assumes nothing.
-use mathlib.Core.Path.{_≡_, refl, sym, ap, _∙_}
+use mathlib.Core.Path.{_≡_, refl, sym, ap, fun-ext, _∙_}
 use mathlib.Core.Bool.{Bool, true}
 use mathlib.Core.List.{List, [], _∷_, _++_}
 use mathlib.Core.Logic.{⊎-elim}
@@ -20,7 +20,8 @@ use Rattle.tables.proofs.Scans.{below-suc}
 use Rattle.signed.specs.Words.{within}
 use Rattle.signed.proofs.Bounds.{true-in}
 use Rattle.layout.specs.declared.Header.{Header}
-use Rattle.node.specs.Rows.{bit}
+use Rattle.node.specs.FactValues.{FactValue}
+use Rattle.node.specs.Rows.{bit, isTrue}
 use Rattle.node.proofs.Truth.{bit-bool}
 use Rattle.records.specs.Accepted.{Accepted}
 use Rattle.records.specs.Nodes.{nodeWords, childrenOf}
@@ -28,7 +29,7 @@ use Rattle.records.specs.Rules.{lower, citesLower}
 use Rattle.records.proofs.NodeLaws.{node-ok}
 use Rattle.records.proofs.RuleLaws.{rule-ok, cites-here, cites-below}
 use Rattle.facts.specs.Inner.{FactsIn}
-use Rattle.predicate.specs.Values.{truth, valueOf}
+use Rattle.predicate.specs.Values.{childValue, truth, valueOf}
 use Rattle.predicate.specs.Inner.{Truths, Evaluable}
 use Rattle.predicate.specs.Verdicts.{whenNode, verdictsTo, verdictsOf}
 use Rattle.kinds.proofs.KindLaws.{cited}
@@ -47,7 +48,7 @@ one-more [] b h (suc k) = none-true .each k
 one-more (x ∷ xs) b h zero = h zero
 one-more (x ∷ xs) b h (suc k) = one-more xs b (λ j. h (suc j)) k
 
-module _ (s : List ℤ) (h : Header) (facts : List ℤ) where
+module _ (s : List ℤ) (h : Header) (facts : List FactValue) where
   pub truths-to : (k : ℕ) → Truths (verdictsTo s h facts k)
   unfolding verdictsTo
   truths-to zero = none-true
@@ -79,36 +80,38 @@ module _ (s : List ℤ) (h : Header) (facts : List ℤ) where
 -- ---- a rule's judgement hangs on the facts and on lower verdicts alone
 
 -- what is picked depends on the numbers in the list alone, all of which pass the test P
-pick-passed : (f g : ℕ → ℤ) (P : ℕ → Bool) (n : ℕ) (cs : List ℕ) (i : ℕ) → Before n cs → allOf P cs ≡ true
-    → ((j : ℕ) → j < n → P j ≡ true → f j ≡ g j) → pick f (pos 0) cs i ≡ pick g (pos 0) cs i
+pick-passed : (f g : ℕ → ℤ → ℤ) (P : ℕ → Bool) (n : ℕ) (cs : List ℕ) (i : ℕ) → Before n cs → allOf P cs ≡ true
+    → ((j : ℕ) → j < n → P j ≡ true → f j ≡ g j) → pick f (λ _. pos 0) cs i ≡ pick g (λ _. pos 0) cs i
 unfolding pick allOf
 pick-passed f g P n [] i b p h = refl
 pick-passed f g P n (c ∷ cs) zero b p h = h c (b .0) (and-left (P c) (allOf P cs) p)
 pick-passed f g P n (c ∷ cs) (suc i) b p h = pick-passed f g P n cs i (b .1) (and-right (P c) (allOf P cs) p) h
 
-module _ (s : List ℤ) (h : Header) (facts : List ℤ) (a : Accepted s h) (k : ℕ) (v w : List ℤ)
+module _ (s : List ℤ) (h : Header) (facts : List FactValue) (a : Accepted s h) (k : ℕ) (v w : List ℤ)
     (agree : (c : ℕ) → lower s h k c ≡ true → getD v c (pos 0) ≡ getD w c (pos 0)) where
   cites-step : (n : ℕ) → ((j : ℕ) → j < n → j < h .nodes → citesLower s h k j ≡ true → valueOf s h facts v j ≡ valueOf s h facts w j) → n < h .nodes
       → citesLower s h k n ≡ true → valueOf s h facts v n ≡ valueOf s h facts w n
   cites-step n ih l p =
       let b = node-ok s h n (a .nodes n l) .before in
       let below = cites-below s h k n b p in
-      let same : (i : ℕ)
-      → pick (valueOf s h facts v) (pos 0) (childrenOf s h n) i ≡ pick (valueOf s h facts w) (pos 0) (childrenOf s h n) i = λ i. pick-passed
-      (valueOf s h facts v) (valueOf s h facts w) (citesLower s h k) n (childrenOf s h n) i b below (λ j q. ih j q (omega arith)) in
-      value-is s h facts v n b
-      ∙ rw (same 0, same 1) (cited _ (lower s h k) (nodeWords s h n) facts v w _ _ (cites-here s h k n b p) agree)
-      ∙ sym (value-is s h facts w n b)
+      let same : (i : ℕ) → childValue s h (valueOf s h facts v) n i ≡ childValue s h (valueOf s h facts w) n i =
+      λ i. pick-passed (valueOf s h facts v) (valueOf s h facts w) (citesLower s h k) n (childrenOf s h n) i b below (λ j q. ih j q (omega arith)) in
+      fun-ext (λ e.
+      value-is s h facts v n b e
+      ∙ rw (same 0, same 1) (cited _ (lower s h k) (nodeWords s h n) facts v w e _ _ _ (cites-here s h k n b p) agree)
+      ∙ sym (value-is s h facts w n b e))
 
   -- the value of a node whose tree cites only lower rules
   cites-only : (n : ℕ) → n < h .nodes → citesLower s h k n ≡ true → valueOf s h facts v n ≡ valueOf s h facts w n
   cites-only = strong (λ (n : ℕ). n < h .nodes → citesLower s h k n ≡ true → valueOf s h facts v n ≡ valueOf s h facts w n) cites-step
 
   -- rule k comes out alike under two lists of verdicts that agree on the rules of smaller number and lower stratum
-  pub verdicts-below : k < h .rules → valueOf s h facts v (whenNode s h k) ≡ valueOf s h facts w (whenNode s h k)
-  verdicts-below l = let r = rule-ok s h k (a .rules k l) in cites-only (whenNode s h k) (r .root .exists) (r .cites)
+  pub verdicts-below : k < h .rules → truth s h facts v (whenNode s h k) ≡ truth s h facts w (whenNode s h k)
+  verdicts-below l =
+      let r = rule-ok s h k (a .rules k l) in
+      ap (λ (g : ℤ → ℤ). isTrue (g (pos 0))) (cites-only (whenNode s h k) (r .root .exists) (r .cites))
 
-module _ (s : List ℤ) (h : Header) (facts : List ℤ) where
+module _ (s : List ℤ) (h : Header) (facts : List FactValue) where
   -- so a rule's verdict says whether its when-node is true over the facts and all the verdicts
   pub verdict-is : Accepted s h → (k : ℕ) → k < h .rules
       → getD (verdictsOf s h facts) k (pos 0) ≡ bit (truth s h facts (verdictsOf s h facts) (whenNode s h k))
@@ -121,12 +124,12 @@ module _ (s : List ℤ) (h : Header) (facts : List ℤ) where
 -- ---- the loop that fills the verdicts
 
 -- of a list of so many rules' verdicts the first k are stored; the others may be anything
-pub record Judged (s : List ℤ) (h : Header) (facts : List ℤ) (rules k : ℕ) (out : List ℤ) : Type 0 where
+pub record Judged (s : List ℤ) (h : Header) (facts : List FactValue) (rules k : ℕ) (out : List ℤ) : Type 0 where
   pub here : k ≤ rules
   pub long : length out ≡ rules
   pub stored : take k out ≡ verdictsTo s h facts k
 
-module _ (s : List ℤ) (h : Header) (facts : List ℤ) (rules : ℕ) where
+module _ (s : List ℤ) (h : Header) (facts : List FactValue) (rules : ℕ) where
   pub none : (out : List ℤ) → length out ≡ rules → Judged s h facts rules 0 out
   unfolding verdictsTo
   none out e = record { here = omega arith; long = e; stored = refl }
@@ -141,7 +144,7 @@ module _ (s : List ℤ) (h : Header) (facts : List ℤ) (rules : ℕ) where
         stored = rw add-one (take-suc-set out k x (omega (arith, r .long)) ∙ rw (e, r .stored));
       }
 
-pub done : (s : List ℤ) (h : Header) (facts : List ℤ) (k : ℕ) (out : List ℤ) → Judged s h facts (h .rules) k out → h .rules ≤ k
+pub done : (s : List ℤ) (h : Header) (facts : List FactValue) (k : ℕ) (out : List ℤ) → Judged s h facts (h .rules) k out → h .rules ≤ k
     → out ≡ verdictsOf s h facts
 unfolding verdictsOf
 done s h facts k out r l =
@@ -149,11 +152,15 @@ done s h facts k out r l =
     sym (take-all k out (omega (arith, r .long))) ∙ r .stored ∙ ap (verdictsTo s h facts) e
 
 -- what judging rule k asks
-pub judging : {s : List ℤ} {h : Header} {facts out : List ℤ} {k : ℕ} {rules : ℕ} → Accepted s h → FactsIn s h facts → Judged s h facts rules k out
+pub judging : {s : List ℤ} {h : Header} {facts : List FactValue} {out : List ℤ} {k : ℕ} {rules : ℕ} → Accepted s h → FactsIn s h facts → Judged s h facts rules k out
     → k < h .rules → Evaluable s h facts (take k out) (whenNode s h k)
 judging {s} {h} {facts} {out} {k} a f r l =
     let root = rule-ok s h k (a .rules k l) .root in
     record {
-      over = record { accepted = a; known = f; judged = rw (r .stored) (truths-to s h facts k); exists = root .exists };
+      accepted = a;
+      known = f;
+      judged = rw (r .stored) (truths-to s h facts k);
+      exists = root .exists;
       bool = root .bool;
+      closed = root .closed;
     }

@@ -20,7 +20,7 @@ use Rattle.layout.specs.Groups.{stepCount, routeCount}
 use Rattle.layout.specs.Tables.{operation, flow, step, route}
 use Rattle.layout.proofs.Owners.{holder-is}
 use Rattle.records.specs.Nodes.{itemOf}
-use Rattle.records.specs.Names.{namedBySteps, goodRoot}
+use Rattle.records.specs.Names.{namedBySteps, closed, goodRoot}
 use Rattle.records.specs.Flows.{goodFlow, goodStep, goodOperationStep, goodBranchStep, goodRoute, goodRouteOf, stepsEnd, routesEnd, flowOf, stepOf}
 use Rattle.records.specs.Accepted.{Accepted}
 
@@ -39,7 +39,7 @@ pub record StepOk (s : List ℤ) (h : Header) (i : ℕ) : Type 0 where
 -- the two kinds of step: an operation by a persona, with a route for each outcome and one for failure; a branch on a node, with two
 pub data StepKind (s : List ℤ) (h : Header) (r : Record) : Type 0 where
   performs : r .w0 ≡ 0 → r .w1 < h .operations → r .w2 < h .personas → r .w4 ≡ operation s h (r .w1) .w4 + 1 → StepKind s h r
-  branches : r .w0 ≡ 1 → r .w1 < h .nodes → itemOf s h (r .w1) .sort ≡ 0 → r .w4 ≡ 2 → StepKind s h r
+  branches : r .w0 ≡ 1 → r .w1 < h .nodes → itemOf s h (r .w1) .sort ≡ 0 → closed s h (r .w1) ≡ true → r .w4 ≡ 2 → StepKind s h r
 
 -- the two kinds of route: to a step after `owner` and before `end`, or to a terminal
 pub data RouteKind (owner end : ℕ) (r : Record) : Type 0 where
@@ -55,7 +55,8 @@ step-kind s h r named p = go (ℕ-discrete (r .w0) 0) (ℕ-discrete (r .w0) 1)
     go : Dec (r .w0 ≡ 0) → Dec (r .w0 ≡ 1) → StepKind s h r
     go (yes e) d = let q = simp tests at (rw (eq-eqb (r .w0) 0 e) at p) in performs e (q .0 .0) (q .0 .1) (q .1)
     go (no n) (yes e) =
-        let q = simp tests at (rw (ne-eqb (r .w0) 0 n, eq-eqb (r .w0) 1 e) at p) in branches e (q .0 .0 .0 .0) (q .0 .0 .0 .1) (q .1)
+        let q = simp tests at (rw (ne-eqb (r .w0) 0 n, eq-eqb (r .w0) 1 e) at p) in
+        branches e (q .0 .0 .0 .0 .0) (q .0 .0 .0 .0 .1) (q .0 .0 .0 .1) (q .1)
     go (no n) (no m) = absurd (true-false refl (sym (rw (ne-eqb (r .w0) 0 n, ne-eqb (r .w0) 1 m) at p)))
 
 -- the test of a route
@@ -70,7 +71,7 @@ route-kind owner end r p = go (ℕ-discrete (r .w0) 0)
 -- a step has at least one route
 some-routes : (s : List ℤ) (h : Header) (r : Record) → StepKind s h r → 1 ≤ r .w4
 some-routes s h r (performs e o q c) = omega arith
-some-routes s h r (branches e o t c) = omega arith
+some-routes s h r (branches e o t l c) = omega arith
 
 module _ (s : List ℤ) (h : Header) (a : Accepted s h) where
   -- an owner's members lie in the table

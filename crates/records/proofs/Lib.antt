@@ -8,3 +8,4 @@ pub mod RuleLaws
 pub mod FlowLaws
 pub mod OperationLaws
 pub mod MixedTypes
+pub mod ScopeLaws

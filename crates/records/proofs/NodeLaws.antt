@@ -10,7 +10,7 @@ use native.Mathlib.Omega.{arith}
 use borrow.Author.Tests.{ltb-true}
 use Rattle.tables.specs.Table.{entry}
 use Rattle.tables.specs.Lists.{allOf, distinct, joined, pick}
-use Rattle.tables.proofs.Bools.{and-left, and-right}
+use Rattle.tables.proofs.Bools.{and-iff, and-left, and-right}
 use Rattle.tables.proofs.Grown.{entry-from, strong}
 use Rattle.tables.proofs.Lists.{Before, all-before, pick-same, pick-all, joined-same}
 use Rattle.words.specs.Record.{numbersOf, unused}
@@ -24,12 +24,12 @@ use Rattle.node.specs.Rows.{fits, converts}
 use Rattle.node.specs.Judged.{SmallKids}
 use Rattle.node.proofs.Judged.{small-of, smalls}
 use Rattle.node.proofs.Few.{sort-few}
-use Rattle.records.specs.Facts.{factItem, goodFact}
+use Rattle.records.specs.Facts.{factOf, goodFact}
 use Rattle.records.proofs.FactLaws.{fact-ok}
-use Rattle.records.specs.Nodes.{nodeWords, nodeRow, childrenOf, namedFact, childItem, givenOf, itemStep, itemOf, treeStep, treeOf, namedByNodes, goodChildren, goodNode}
+use Rattle.records.specs.Nodes.{nodeWords, nodeRow, childrenOf, noFact, namedFact, childItem, givenOf, itemStep, itemOf, treeStep, treeOf, namedByNodes, goodChildren, flat, goodNode}
 
 -- its children come before it, are named here for the first time and once; its row takes what it is given; its range and those of its
--- children, converted, are within −M..M
+-- children, converted, are within −M..M; no quantifier stands under a quantifier
 pub record NodeOk (s : List ℤ) (h : Header) (n : ℕ) : Type 0 where
   pub before : Before n (childrenOf s h n)
   pub new : allOf (λ c. ltb c n && not (namedByNodes s h n c)) (childrenOf s h n) ≡ true
@@ -38,6 +38,7 @@ pub record NodeOk (s : List ℤ) (h : Header) (n : ℕ) : Type 0 where
   pub takes : nodeRow s h n .takes (givenOf s h (itemOf s h) n) ≡ true
   pub item : itemOf s h n ≡ nodeRow s h n .gives (givenOf s h (itemOf s h) n)
   pub fits : Small (itemOf s h n)
+  pub flat : flat s h n ≡ true
 
 -- the entries of a node from those of its children
 module _ (s : List ℤ) (h : Header) (n : ℕ) (b : Before n (childrenOf s h n)) where
@@ -57,18 +58,19 @@ module _ (s : List ℤ) (h : Header) (n : ℕ) (good : goodNode s h n ≡ true) 
   abbrev given : Given
   given = givenOf s h (itemOf s h) n
 
-  children-good : goodChildren n (namedByNodes s h n) (childrenOf s h n) ≡ true
+  parts : (((goodChildren n (namedByNodes s h n) (childrenOf s h n) ≡ true) × (converts given ≡ true)) × (fits (nodeRow s h n) given ≡ true))
+      × (flat s h n ≡ true)
   unfolding goodNode
-  children-good = and-left _ (converts given) (and-left _ (fits (nodeRow s h n) given) good)
+  parts = simp and-iff at good
+
+  children-good : goodChildren n (namedByNodes s h n) (childrenOf s h n) ≡ true
+  children-good = parts .0 .0 .0
 
   converts-good : converts given ≡ true
-  unfolding goodNode
-  converts-good =
-      and-right (goodChildren n (namedByNodes s h n) (childrenOf s h n)) _ (and-left _ (fits (nodeRow s h n) given) good)
+  converts-good = parts .0 .0 .1
 
   fits-good : fits (nodeRow s h n) given ≡ true
-  unfolding goodNode
-  fits-good = and-right (goodChildren n (namedByNodes s h n) (childrenOf s h n) && converts given) _ good
+  fits-good = parts .0 .1
 
   new-good : allOf (λ c. ltb c n && not (namedByNodes s h n c)) (childrenOf s h n) ≡ true
   unfolding goodChildren
@@ -99,15 +101,16 @@ module _ (s : List ℤ) (h : Header) (n : ℕ) (good : goodNode s h n ≡ true) 
         takes = takes-good;
         item = item-is s h n b;
         fits = rw (item-is s h n b) (small-of (nodeRow s h n .gives given) small-good);
+        flat = parts .1;
       }
 
 -- ---- types are small numbers
 
 module _ (s : List ℤ) (h : Header) (facts : (k : ℕ) → k < h .facts → goodFact s k ≡ true) where
-  pub fact-few : (f : ℕ) → namedFact s (h .facts) f .sort ≤ 261
+  pub fact-few : (f : ℕ) → namedFact s (h .facts) f .item .sort ≤ 261
   fact-few f = go (ltb f (h .facts)) refl
     where
-      go : (t : Bool) → ltb f (h .facts) ≡ t → cond t (factItem s f) none .sort ≤ 261
+      go : (t : Bool) → ltb f (h .facts) ≡ t → cond t (factOf s f) noFact .item .sort ≤ 261
       go true e = fact-ok s f (facts f (ltb-true f (h .facts) e)) .bounds .few
       go false e = omega arith
 

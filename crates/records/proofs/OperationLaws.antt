@@ -20,7 +20,7 @@ use Rattle.layout.specs.Groups.{effectCount}
 use Rattle.layout.specs.Tables.{entity, transition, operation, effect}
 use Rattle.layout.proofs.Owners.{holder-is, held, starts-by, ends-past}
 use Rattle.records.specs.Accepted.{Accepted}
-use Rattle.records.specs.Names.{goodRoot, namedByOperations}
+use Rattle.records.specs.Names.{closed, goodRoot, namedByOperations}
 use Rattle.records.specs.Nodes.{itemOf}
 use Rattle.records.specs.Entities.{goodEntity, states, goodChange, goodTransition, sameChange, declared}
 use Rattle.records.specs.Operations.{goodMask, goodOperation, effectsEnd, operationOf, outcome, goodOutcome, sameSource, goodEffectOf, goodEffect}
@@ -51,6 +51,7 @@ pub record OperationOk (s : List ℤ) (h : Header) (o : ℕ) : Type 0 where
   pub mask-below : operation s h o .w0 < 2 ^ h .personas
   pub node : operation s h o .w1 < h .nodes
   pub bool : itemOf s h (operation s h o .w1) .sort ≡ 0
+  pub closed : closed s h (operation s h o .w1) ≡ true
   pub unnamed : namedByOperations s h o (operation s h o .w1) ≡ false
   pub first : operation s h o .w2 ≡ sumBelow (effectCount s h) o
   pub effects : 1 ≤ operation s h o .w3
@@ -111,8 +112,9 @@ module _ {s : List ℤ} {h : Header} (a : Accepted s h) where
       record {
         mask-some = q .0 .0 .0 .0 .0 .0 .0;
         mask-below = q .0 .0 .0 .0 .0 .0 .1;
-        node = q .0 .0 .0 .0 .0 .1 .0 .0;
-        bool = q .0 .0 .0 .0 .0 .1 .0 .1;
+        node = q .0 .0 .0 .0 .0 .1 .0 .0 .0;
+        bool = q .0 .0 .0 .0 .0 .1 .0 .0 .1;
+        closed = q .0 .0 .0 .0 .0 .1 .0 .1;
         unnamed = not-flip _ (q .0 .0 .0 .0 .0 .1 .1);
         first = first-is o l;
         effects = q .0 .0 .0 .1;

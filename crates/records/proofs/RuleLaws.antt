@@ -17,19 +17,20 @@ use Rattle.layout.specs.declared.Header.{Header}
 use Rattle.layout.specs.Tables.{rule}
 use Rattle.records.specs.Accepted.{Accepted}
 use Rattle.records.specs.Nodes.{childrenOf, citedBy, itemOf, treeOf}
-use Rattle.records.specs.Names.{namedByRules, goodRoot}
+use Rattle.records.specs.Names.{namedByRules, closed, goodRoot}
 use Rattle.records.specs.Rules.{stratum, lower, citesLower, goodRule}
 use Rattle.records.proofs.NodeLaws.{tree-is}
 
--- the root of a tree: it exists and is Bool, and no record before names it
+-- the root of a tree: it exists and is Bool, its tree cites elements as it may, and no record before names it
 pub record RootOk (s : List ℤ) (h : Header) (a : ℕ) (named : Bool) : Type 0 where
   pub exists : a < h .nodes
   pub bool : itemOf s h a .sort ≡ 0
+  pub closed : closed s h a ≡ true
   pub new : named ≡ false
 
 pub root-ok : (s : List ℤ) (h : Header) (a : ℕ) (named : Bool) → goodRoot s h a named ≡ true → RootOk s h a named
 unfolding goodRoot
-root-ok s h a named p = let q = simp tests at p in record { exists = q .0 .0; bool = q .0 .1; new = not-flip named (q .1) }
+root-ok s h a named p = let q = simp tests at p in record { exists = q .0 .0 .0; bool = q .0 .0 .1; closed = q .0 .1; new = not-flip named (q .1) }
 
 pub record RuleOk (s : List ℤ) (h : Header) (k : ℕ) : Type 0 where
   pub small : stratum s h k ≤ 15

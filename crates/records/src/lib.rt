@@ -1,13 +1,16 @@
 // Tests of a single record, from its words and from the numbers that earlier records give.
 ghost use mathlib.Core.Path.{_≡_};
-ghost use Prim.Native.Nat.{ℕ, _≤_, _<_};
-ghost use mathlib.Core.Bool.{true, _&&_};
+ghost use Prim.Native.Nat.{ℕ, _+_, _*_, _≤_, _<_};
+ghost use mathlib.Core.Bool.{true, cond, _&&_};
+ghost use lib.Dec.{eqb};
+ghost use lib.ListN.{length};
 ghost use lib.Signed.{leZ};
 ghost use Rattle.signed.specs.Words.{bounded as inBounds};
 ghost use Rattle.layout.specs.Sized.{Sized};
+ghost use Rattle.layout.specs.Tables.{fact};
 ghost use Rattle.node.specs.FactTypes.{factTypeOf};
-ghost use Rattle.records.specs.Facts.{goodDefault};
-ghost use Rattle.records.specs.Nodes.{namedFact};
+ghost use Rattle.records.specs.Facts.{goodDefault, goodTail, setOf, factItem, isList};
+ghost use Rattle.records.specs.Nodes.{namedFact, noFact};
 ghost use Rattle.records.specs.Accepted.{GoodFacts};
 ghost use Rattle.records.specs.Rules.{stratum};
 ghost use Rattle.records.specs.Entities.{states, goodEntity, goodChange};
@@ -20,6 +23,7 @@ use layout::Header;
 use layout::Operation;
 use layout::Rule;
 use layout::place;
+use node::Named;
 use signed::at_most;
 use signed::bounded;
 use signed::same;
@@ -80,23 +84,62 @@ fn fact_sort(kind: usize, set: usize) -> usize
     }
 }
 
-// The type and range of the fact that a node names, where there are so many facts; Bool, 0 to 0, where there is no such fact.
-pub fn named_fact(s: &[i64], facts: usize, f: usize) -> Item
+// The type of a fact's values: of a list that of its elements.
+pub fn value_type(kind: usize, element: usize) -> usize
+    ensures { λ t. ⌜ t ≡ cond (eqb kind 5) element kind ⌝ }
+{
+    if kind == 5 { element } else { kind }
+}
+
+// The type and range of a fact's values.
+fn fact_item(s: &[i64], k: usize) -> Item
+    requires { ⌜ (16 + 8 * k + 8 ≤ length (now s)) × (setOf (now s) k ≤ 127) ⌝ }
+    ensures { λ x. ⌜ x ≡ factItem (now (s .entry)) k ⌝ }
+{
+    let kind = value_type(
+        number(s, k, place::FACT_TYPE),
+        number(s, k, place::FACT_ELEMENT_TYPE),
+    );
+    let sort = fact_sort(kind, number(s, k, place::FACT_SET));
+    span(
+        sort,
+        word(s, k, place::FACT_MIN),
+        word(s, k, place::FACT_MAX),
+    )
+}
+
+// Whether a fact is a list.
+pub fn is_list(s: &[i64], k: usize) -> bool
+    requires { ⌜ 16 + 8 * k + 8 ≤ length (now s) ⌝ }
+    ensures { λ b. ⌜ b ≡ isList (now (s .entry)) k ⌝ }
+{
+    number(s, k, place::FACT_TYPE) == 5
+}
+
+// The fact that a node names, where there are so many facts; a Bool, 0 to 0, where there is no such fact.
+pub fn named_fact(s: &[i64], facts: usize, f: usize) -> Named
     requires { ⌜ GoodFacts (now s) facts ⌝ }
     ensures { λ x. ⌜ x ≡ namedFact (now (s .entry)) facts f ⌝ }
 {
     if f < facts {
-        let sort = fact_sort(
-            number(s, f, place::FACT_TYPE),
-            number(s, f, place::FACT_SET),
-        );
-        span(
-            sort,
-            word(s, f, place::FACT_MIN),
-            word(s, f, place::FACT_MAX),
-        )
+        Named {
+            item: fact_item(s, f),
+            list: is_list(s, f),
+            most: word(s, f, place::FACT_LARGEST),
+        }
     } else {
-        span(0, 0, 0)
+        no_fact()
+    }
+}
+
+// Where a node names no fact.
+pub fn no_fact() -> Named
+    ensures { λ x. ⌜ x ≡ noFact ⌝ }
+{
+    Named {
+        item: span(0, 0, 0),
+        list: false,
+        most: 0,
     }
 }
 
@@ -109,6 +152,18 @@ pub fn good_default(flag: usize, min: i64, max: i64, default: i64) -> bool
         zero
     } else {
         (flag == 1) & inside
+    }
+}
+
+// The words past a fact's set; a list has no default.
+pub fn good_tail(s: &[i64], k: usize, r: Record) -> bool
+    requires { ⌜ (16 + 8 * k + 8 ≤ length (now s)) × (r ≡ fact (now s) k) ⌝ }
+    ensures { λ b. ⌜ b ≡ goodTail (now (s .entry)) k ⌝ }
+{
+    if is_list(s, k) {
+        (r.w3 == 0) & (r.w6 <= 2) & (r.w7 <= 100)
+    } else {
+        unused(6, r)
     }
 }
 

@@ -11,11 +11,13 @@ use native.Mathlib.Omega.{arith}
 use native.Mathlib.Decide.{ℕ-discrete, decLt}
 use Rattle.tables.proofs.Bools.{true-false}
 use Rattle.layout.specs.declared.Header.{Header}
+use Rattle.node.specs.FactValues.{FactValue}
 use Rattle.predicate.specs.Values.{truth}
 use Rattle.attempt.specs.Attempts.{precondition}
 use Rattle.run.specs.Memo.{Memo}
 
-pub memo-none : (s : List ℤ) (h : Header) (facts verdicts : List ℤ) → Memo s h facts verdicts (replicate 128 false) (replicate 128 false)
+pub memo-none : (s : List ℤ) (h : Header) (facts : List FactValue) (verdicts : List ℤ)
+    → Memo s h facts verdicts (replicate 128 false) (replicate 128 false)
 memo-none s h facts verdicts =
     record {
       known-long = length-replicate 128 false;
@@ -28,7 +30,7 @@ memo-none s h facts verdicts =
     go o (no l) = List·getD-eq-default (replicate 128 false) false {n = o} (omega (arith, length-replicate 128 false))
 
 -- operation o's precondition is worked out
-pub memo-more : {s : List ℤ} {h : Header} {facts verdicts : List ℤ} {known holds : List Bool} → Memo s h facts verdicts known holds
+pub memo-more : {s : List ℤ} {h : Header} {facts : List FactValue} {verdicts : List ℤ} {known holds : List Bool} → Memo s h facts verdicts known holds
     → (o : ℕ) (b : Bool) → o < 128
     → b ≡ truth s h facts verdicts (precondition s h o) → Memo s h facts verdicts (set known o true) (set holds o b)
 memo-more {s} {h} {facts} {verdicts} {known} {holds} m o b l e =

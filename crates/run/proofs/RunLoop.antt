@@ -13,6 +13,7 @@ use borrow.Author.Tests.{not-true, not-false}
 use Rattle.answer.specs.declared.Counted.the-variants.{Is as Walked}
 use Rattle.layout.specs.declared.Header.{Header}
 use Rattle.layout.specs.Tables.{flow}
+use Rattle.node.specs.FactValues.{FactValue}
 use Rattle.records.specs.Flows.{stepsEnd, flowOf}
 use Rattle.records.proofs.FlowLaws.{flow-ok, flow-of}
 use Rattle.operation.specs.declared.Wanted.{Wanted}
@@ -34,7 +35,7 @@ abbrev pub running : List ℤ → List ℕ → Walker → Running
 running states path w = record { walker = w; path = take (w .length) path; states = states }
 
 -- the run of flow f from states₀ with the buffer b has come to states, path and w, and the rest of it is still to come
-pub record Ongoing (s : List ℤ) (h : Header) (facts verdicts states₀ : List ℤ) (f : ℕ) (words : List ℤ) (b : List ℕ)
+pub record Ongoing (s : List ℤ) (h : Header) (facts : List FactValue) (verdicts states₀ : List ℤ) (f : ℕ) (words : List ℤ) (b : List ℕ)
     (states : List ℤ) (path : List ℕ) (w : Walker) : Type 0 where
   pub size : length path ≡ length b
   pub held : Held s h f (running states path w)
@@ -42,8 +43,8 @@ pub record Ongoing (s : List ℤ) (h : Header) (facts verdicts states₀ : List 
       runOn s h facts verdicts (wantedAt s h f words) (stepsOf s h f - w .length) (running states path w)
       ≡ ran s h facts verdicts states₀ f (wantedAt s h f words)
 
-module _ {s : List ℤ} {h : Header} {facts verdicts states₀ : List ℤ} {f : ℕ} {b : List ℕ} {w₀ : Walker} (u : Runnable s h facts verdicts states₀ f b)
-    (q₀ : w₀ ≡ started s h f) where
+module _ {s : List ℤ} {h : Header} {facts : List FactValue} {verdicts states₀ : List ℤ} {f : ℕ} {b : List ℕ} {w₀ : Walker}
+    (u : Runnable s h facts verdicts states₀ f b) (q₀ : w₀ ≡ started s h f) where
   -- the loop knows the flow by its first step
   its-flow : flowOf s h (w₀ .step) ≡ f
   unfolding started

@@ -11,6 +11,7 @@ use native.Mathlib.Omega.{arith}
 use Rattle.tables.proofs.Bools.{bool-cases}
 use Rattle.answer.specs.Inner.{SmallCounted}
 use Rattle.layout.specs.declared.Header.{Header}
+use Rattle.node.specs.FactValues.{FactValue}
 use Rattle.operation.specs.declared.Wanted.{Wanted}
 use Rattle.operation.specs.Inner.{StatesIn}
 use Rattle.walks.specs.Paths.{stepsOf}
@@ -26,7 +27,7 @@ use Rattle.run.proofs.StepLaws.{route-of, states-then-in}
 
 -- ---- a run by its steps
 
-module _ (s : List ℤ) (h : Header) (facts verdicts : List ℤ) (wants : ℕ → Wanted) (t : Running) where
+module _ (s : List ℤ) (h : Header) (facts : List FactValue) (verdicts : List ℤ) (wants : ℕ → Wanted) (t : Running) where
   pub run-stops : (n : ℕ) → t .walker .finished ≡ true → runOn s h facts verdicts wants n t ≡ t
   unfolding runOn
   run-stops zero e = refl
@@ -44,7 +45,8 @@ pub record Held (s : List ℤ) (h : Header) (f : ℕ) (t : Running) : Type 0 whe
   pub trail : Trail s h f (t .path) (t .walker)
   pub valid : StatesIn s h (t .states)
 
-module _ {s : List ℤ} {h : Header} {facts verdicts states : List ℤ} {f : ℕ} {b : List ℕ} (u : Runnable s h facts verdicts states f b) where
+module _ {s : List ℤ} {h : Header} {facts : List FactValue} {verdicts states : List ℤ} {f : ℕ} {b : List ℕ}
+    (u : Runnable s h facts verdicts states f b) where
   pub held-begun : Held s h f (begun s h f states)
   unfolding begun
   held-begun = record { trail = set-out; valid = u .valid }

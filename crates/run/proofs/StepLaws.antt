@@ -14,7 +14,9 @@ use Rattle.answer.specs.declared.Count.{Count}
 use Rattle.answer.specs.declared.Count.the-variants.{Is, Refused}
 use Rattle.layout.specs.declared.Header.{Header}
 use Rattle.layout.specs.Tables.{operation, step}
+use Rattle.node.specs.FactValues.{FactValue}
 use Rattle.records.specs.Nodes.{itemOf}
+use Rattle.records.specs.Names.{closed}
 use Rattle.records.proofs.FlowLaws.{StepKind, performs as is-operation, branches as is-branch, step-is}
 use Rattle.records.proofs.OperationLaws.{operation-ok}
 use Rattle.predicate.specs.Values.{truth}
@@ -33,7 +35,7 @@ use Rattle.run.specs.Inner.{Steppable}
 
 -- ---- by the step's kind
 
-module _ (s : List ℤ) (h : Header) (facts verdicts states : List ℤ) (i : ℕ) (d : Wanted) where
+module _ (s : List ℤ) (h : Header) (facts : List FactValue) (verdicts states : List ℤ) (i : ℕ) (d : Wanted) where
   pub operation-route : performs s h i ≡ true
       → routeTaken s h facts verdicts states i d ≡ answerRoute s h i (attempted s h facts verdicts states (personaAt s h i) (operationAt s h i) d)
   unfolding routeTaken
@@ -61,7 +63,7 @@ module _ (s : List ℤ) (h : Header) (facts verdicts states : List ℤ) (i : ℕ
 
 -- ---- on an accepted sheet
 
-module _ {s : List ℤ} {h : Header} {facts verdicts : List ℤ} {i : ℕ} (w : Steppable s h facts verdicts i) where
+module _ {s : List ℤ} {h : Header} {facts : List FactValue} {verdicts : List ℤ} {i : ℕ} (w : Steppable s h facts verdicts i) where
   kind : StepKind s h (step s h i)
   kind = step-is s h (w .accepted) i (w .exists)
 
@@ -69,11 +71,18 @@ module _ {s : List ℤ} {h : Header} {facts verdicts : List ℤ} {i : ℕ} (w : 
   pub evaluable : performs s h i ≡ false → (n : ℕ) → n ≡ nodeAt s h i → Evaluable s h facts verdicts n
   evaluable e n q =
       let b = go kind in
-      record { over = record { accepted = w .accepted; known = w .known; judged = w .judged; exists = rw q (b .0) }; bool = rw q (b .1) }
+      record {
+        accepted = w .accepted;
+        known = w .known;
+        judged = w .judged;
+        exists = rw q (b .0);
+        bool = rw q (b .1);
+        closed = rw q (b .2);
+      }
     where
-      go : StepKind s h (step s h i) → (nodeAt s h i < h .nodes) × (itemOf s h (nodeAt s h i) .sort ≡ 0)
+      go : StepKind s h (step s h i) → (nodeAt s h i < h .nodes) × (itemOf s h (nodeAt s h i) .sort ≡ 0) × (closed s h (nodeAt s h i) ≡ true)
       go (is-operation z o p c) = absurd (true-false (eq-eqb (step s h i .w0) 0 z) e)
-      go (is-branch z o t c) = (o, t)
+      go (is-branch z o t l c) = (o, t, l)
 
   pub branch-two : performs s h i ≡ false → routesOf s h i ≡ 2
   unfolding routesOf
@@ -81,7 +90,7 @@ module _ {s : List ℤ} {h : Header} {facts verdicts : List ℤ} {i : ℕ} (w : 
     where
       go : StepKind s h (step s h i) → step s h i .w4 ≡ 2
       go (is-operation z o p c) = absurd (true-false (eq-eqb (step s h i .w0) 0 z) e)
-      go (is-branch z o t c) = c
+      go (is-branch z o t l c) = c
 
   -- the routes lie in the table
   pub routes-end : firstRouteOf s h i + routesOf s h i ≤ h .routes
@@ -99,7 +108,7 @@ module _ {s : List ℤ} {h : Header} {facts verdicts : List ℤ} {i : ℕ} (w : 
     where
       go : StepKind s h (step s h i) → step s h i .w4 ≡ operation s h (operationAt s h i) .w4 + 1
       go (is-operation z o p c) = c
-      go (is-branch z o t c) = let k = eqb-true (step s h i .w0) 0 e in absurd (omega arith)
+      go (is-branch z o t l c) = let k = eqb-true (step s h i .w0) 0 e in absurd (omega arith)
 
   module _ {states : List ℤ} (v : StatesIn s h states) where
     -- an operation step's operation can be attempted
@@ -109,7 +118,7 @@ module _ {s : List ℤ} {h : Header} {facts verdicts : List ℤ} {i : ℕ} (w : 
         go : StepKind s h (step s h i) → Attemptable s h facts verdicts states (personaAt s h i) (operationAt s h i)
         go (is-operation z o p c) =
             record { ready = record { accepted = w .accepted; lent = v; exists = o }; known = w .known; judged = w .judged; persona = p }
-        go (is-branch z o t c) = let k = eqb-true (step s h i .w0) 0 e in absurd (omega arith)
+        go (is-branch z o t l c) = let k = eqb-true (step s h i .w0) 0 e in absurd (omega arith)
 
     module _ (d : Wanted) where
       pub answer-of : performs s h i ≡ true → (r : Count) → attempted s h facts verdicts states (personaAt s h i) (operationAt s h i) d ≡ r
@@ -134,7 +143,7 @@ module _ {s : List ℤ} {h : Header} {facts verdicts : List ℤ} {i : ℕ} (w : 
 
 -- ---- what the code finds
 
-module _ (s : List ℤ) (h : Header) (facts verdicts states : List ℤ) (i : ℕ) (d : Wanted) where
+module _ (s : List ℤ) (h : Header) (facts : List FactValue) (verdicts states : List ℤ) (i : ℕ) (d : Wanted) where
   -- an operation step
   pub took-operation : (r : ℕ) (end : List ℤ) → performs s h i ≡ true
       → r ≡ answerRoute s h i (attempted s h facts verdicts states (personaAt s h i) (operationAt s h i) d)
@@ -148,7 +157,7 @@ module _ (s : List ℤ) (h : Header) (facts verdicts states : List ℤ) (i : ℕ
   took-branch r e p = (p ∙ sym (branch-takes s h facts verdicts states i d e), sym (branch-states s h facts verdicts states i d e))
 
 -- a branch: b is whether its node n is true
-module _ {s : List ℤ} {h : Header} {facts verdicts : List ℤ} {i first n : ℕ} {b : Bool} (w : Steppable s h facts verdicts i)
+module _ {s : List ℤ} {h : Header} {facts : List FactValue} {verdicts : List ℤ} {i first n : ℕ} {b : Bool} (w : Steppable s h facts verdicts i)
     (q : first ≡ firstRouteOf s h i)
     (is-node : n ≡ nodeAt s h i) (is-truth : b ≡ truth s h facts verdicts n) where
   pub on-true : b ≡ true → first ≡ branchRoute s h i (truth s h facts verdicts (nodeAt s h i))
@@ -161,8 +170,9 @@ module _ {s : List ℤ} {h : Header} {facts verdicts : List ℤ} {i first n : �
 
 -- an operation step: t is whether persona p is allowed and the precondition of operation o true, x what the attempt comes to by that, and end
 -- the states that it leaves
-module _ {s : List ℤ} {h : Header} {facts verdicts states : List ℤ} {i first p o : ℕ} (w : Steppable s h facts verdicts i) (v : StatesIn s h states)
-    (e : performs s h i ≡ true) (q : first ≡ firstRouteOf s h i) (of-step : o ≡ operationAt s h i) (by-persona : p ≡ personaAt s h i) where
+module _ {s : List ℤ} {h : Header} {facts : List FactValue} {verdicts states : List ℤ} {i first p o : ℕ}
+    (w : Steppable s h facts verdicts i) (v : StatesIn s h states) (e : performs s h i ≡ true) (q : first ≡ firstRouteOf s h i)
+    (of-step : o ≡ operationAt s h i) (by-persona : p ≡ personaAt s h i) where
   asked : Attemptable s h facts verdicts states p o
   asked = rw (of-step, by-persona) (attemptable w v e)
 
@@ -200,12 +210,12 @@ module _ {s : List ℤ} {h : Header} {facts verdicts states : List ℤ} {i first
     by-failure r count z k = (rw (answered ∙ z, q, k), ended)
 
 -- the routes of an operation step are few, and there are two at least
-pub routes-few : {s : List ℤ} {h : Header} {facts verdicts : List ℤ} {i first count : ℕ} → Steppable s h facts verdicts i → performs s h i ≡ true
-    → first ≡ firstRouteOf s h i
+pub routes-few : {s : List ℤ} {h : Header} {facts : List FactValue} {verdicts : List ℤ} {i first count : ℕ} → Steppable s h facts verdicts i
+    → performs s h i ≡ true → first ≡ firstRouteOf s h i
     → count ≡ routesOf s h i → (first + count ≤ 1024) × (2 ≤ count)
 routes-few {s} {h} {facts} {verdicts} {i} {first} {count} w e q k =
     (omega (arith, q, k, routes-end w, w .accepted .sized .limits .routes), go (step-is s h (w .accepted) i (w .exists)))
   where
     go : StepKind s h (step s h i) → 2 ≤ count
     go (is-operation z o p c) = omega (arith, k, operation-routes w e, operation-ok (w .accepted) (operationAt s h i) o .outcomes)
-    go (is-branch z o t c) = omega (arith, k, branch-two w (ne-eqb (step s h i .w0) 0 (λ x. omega arith)))
+    go (is-branch z o t l c) = omega (arith, k, branch-two w (ne-eqb (step s h i .w0) 0 (λ x. omega arith)))

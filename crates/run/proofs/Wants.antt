@@ -37,7 +37,7 @@ module _ (s : List ℤ) (h : Header) (i : ℕ) where
     where
       go : StepKind s h (step s h i) → operationAt s h i < h .operations
       go (is-operation z o p c) = o
-      go (is-branch z o t c) = absurd (omega arith)
+      go (is-branch z o t l c) = absurd (omega arith)
 
 -- ---- all steps of a flow whose first step is `first`
 

@@ -10,6 +10,7 @@ use Rattle.answer.specs.declared.Counted.{Counted}
 use Rattle.layout.specs.declared.Header.{Header}
 use Rattle.layout.specs.Tables.{step}
 use Rattle.records.specs.Accepted.{Accepted}
+use Rattle.node.specs.FactValues.{FactValue}
 use Rattle.facts.specs.Inner.{FactsIn}
 use Rattle.predicate.specs.Inner.{Truths}
 use Rattle.operation.specs.Inner.{StatesIn}
@@ -19,14 +20,14 @@ use Rattle.walks.specs.Inner.{Lent}
 use Rattle.run.specs.Runs.{Running}
 
 -- what step i asks, besides states of their entities: an accepted sheet, facts in their ranges, verdicts, and that there is such a step
-pub record Steppable (s : List ℤ) (h : Header) (facts verdicts : List ℤ) (i : ℕ) : Type 0 where
+pub record Steppable (s : List ℤ) (h : Header) (facts : List FactValue) (verdicts : List ℤ) (i : ℕ) : Type 0 where
   pub accepted : Accepted s h
   pub known : FactsIn s h facts
   pub judged : Truths verdicts
   pub exists : i < h .steps
 
 -- what a run of flow f asks: the same, with a flow of the sheet and a buffer at least as long as the flow has steps
-pub record Runnable (s : List ℤ) (h : Header) (facts verdicts states : List ℤ) (f : ℕ) (b : List ℕ) : Type 0 where
+pub record Runnable (s : List ℤ) (h : Header) (facts : List FactValue) (verdicts states : List ℤ) (f : ℕ) (b : List ℕ) : Type 0 where
   pub known : FactsIn s h facts
   pub judged : Truths verdicts
   pub valid : StatesIn s h states

@@ -13,6 +13,7 @@ use Rattle.answer.specs.declared.Counted.{Counted}
 use Rattle.layout.specs.declared.Header.{Header}
 use Rattle.layout.specs.Tables.{step, kindOf, nodeNamed, personaNamed, operationNamed}
 use Rattle.records.specs.Operations.{outcomes}
+use Rattle.node.specs.FactValues.{FactValue}
 use Rattle.predicate.specs.Values.{truth}
 use Rattle.operation.specs.declared.Wanted.{Wanted}
 use Rattle.operation.specs.Outcomes.{wantedOf, goodWanted}
@@ -65,7 +66,7 @@ branchRoute s h i true = firstRouteOf s h i
 branchRoute s h i false = firstRouteOf s h i + 1
 
 -- the route that step i takes, where it wants w
-unfoldable pub routeTaken : List ℤ → Header → List ℤ → List ℤ → List ℤ → ℕ → Wanted → ℕ
+unfoldable pub routeTaken : List ℤ → Header → List FactValue → List ℤ → List ℤ → ℕ → Wanted → ℕ
 routeTaken s h facts verdicts states i w =
     elim (performs s h i) [
       | true ↦ answerRoute s h i (attempted s h facts verdicts states (personaAt s h i) (operationAt s h i) w)
@@ -73,7 +74,7 @@ routeTaken s h facts verdicts states i w =
     ]
 
 -- the states after step i: those after its operation, which a refusal leaves as they were; a branch changes none
-unfoldable pub statesThen : List ℤ → Header → List ℤ → List ℤ → List ℤ → ℕ → Wanted → List ℤ
+unfoldable pub statesThen : List ℤ → Header → List FactValue → List ℤ → List ℤ → ℕ → Wanted → List ℤ
 statesThen s h facts verdicts states i w =
     elim (performs s h i) [ true ↦ attemptedStates s h facts verdicts states (personaAt s h i) (operationAt s h i) w | false ↦ states ]
 
@@ -90,7 +91,7 @@ unfoldable pub begun : List ℤ → Header → ℕ → List ℤ → Running
 begun s h f states = record { walker = started s h f; path = []; states = states }
 
 -- "one step of a flow hands on the next step, or the terminal"; "earlier steps' changes remain". `wants` says what each step wants
-unfoldable pub stepped : List ℤ → Header → List ℤ → List ℤ → (ℕ → Wanted) → Running → Running
+unfoldable pub stepped : List ℤ → Header → List FactValue → List ℤ → (ℕ → Wanted) → Running → Running
 stepped s h facts verdicts wants t =
     let i = t .walker .step in
     let route = routeTaken s h facts verdicts (t .states) i (wants i) in
@@ -101,24 +102,24 @@ stepped s h facts verdicts wants t =
     }
 
 -- step by step until it is finished, n steps at most
-unfoldable pub runOn : List ℤ → Header → List ℤ → List ℤ → (ℕ → Wanted) → ℕ → Running → Running
+unfoldable pub runOn : List ℤ → Header → List FactValue → List ℤ → (ℕ → Wanted) → ℕ → Running → Running
 runOn s h facts verdicts wants zero t = t
 runOn s h facts verdicts wants (suc n) t =
     elim (t .walker .finished) [ true ↦ t | false ↦ runOn s h facts verdicts wants n (stepped s h facts verdicts wants t) ]
 
 -- "a run ends within as many steps as the flow has"
-unfoldable pub ran : List ℤ → Header → List ℤ → List ℤ → List ℤ → ℕ → (ℕ → Wanted) → Running
+unfoldable pub ran : List ℤ → Header → List FactValue → List ℤ → List ℤ → ℕ → (ℕ → Wanted) → Running
 ran s h facts verdicts states f wants = runOn s h facts verdicts wants (stepsOf s h f) (begun s h f states)
 
 -- ---- what is answered and left, of the words that are lent
 
 -- the terminal and the path's length
-unfoldable pub ranWalk : List ℤ → Header → List ℤ → List ℤ → List ℤ → ℕ → List ℤ → Counted
+unfoldable pub ranWalk : List ℤ → Header → List FactValue → List ℤ → List ℤ → ℕ → List ℤ → Counted
 ranWalk s h facts verdicts states f words = arrived (ran s h facts verdicts states f (wantedAt s h f words) .walker)
 
 -- the path, and 0 past it
-unfoldable pub ranPath : List ℤ → Header → List ℤ → List ℤ → List ℤ → ℕ → List ℤ → List ℕ → List ℕ
+unfoldable pub ranPath : List ℤ → Header → List FactValue → List ℤ → List ℤ → ℕ → List ℤ → List ℕ → List ℕ
 ranPath s h facts verdicts states f words b = laid (ran s h facts verdicts states f (wantedAt s h f words) .path) b
 
-unfoldable pub ranStates : List ℤ → Header → List ℤ → List ℤ → List ℤ → ℕ → List ℤ → List ℤ
+unfoldable pub ranStates : List ℤ → Header → List FactValue → List ℤ → List ℤ → ℕ → List ℤ → List ℤ
 ranStates s h facts verdicts states f words = ran s h facts verdicts states f (wantedAt s h f words) .states

@@ -8,6 +8,7 @@ ghost use Rattle.words.specs.Record.{number};
 ghost use Rattle.layout.specs.Header.{firstStep};
 ghost use Rattle.layout.specs.Sized.{Sized};
 ghost use Rattle.records.specs.Accepted.{Accepted};
+ghost use Rattle.facts.specs.Inner.{held};
 ghost use Rattle.predicate.specs.Values.{truth};
 ghost use Rattle.predicate.specs.Inner.{Evaluable};
 ghost use Rattle.operation.specs.Mask.{allowed};
@@ -56,17 +57,18 @@ fn recall(
     s: &[i64],
     h: Header,
     facts: &[i64],
+    lists: &[i64],
     verdicts: &[i64],
     known: &mut [bool],
     holds: &mut [bool],
     p: Persona,
     o: Operation,
 ) -> bool
-    requires { ⌜ Evaluable (now s) h (now facts) (now verdicts) (precondition (now s) h (o .0)) ⌝ }
+    requires { ⌜ Evaluable (now s) h (held (now s) (now facts) (now lists)) (now verdicts) (precondition (now s) h (o .0)) ⌝ }
     requires { ⌜ (o .0 < h .operations) × (p .0 < h .personas) ⌝ }
-    requires { ⌜ Memo (now s) h (now facts) (now verdicts) (now known) (now holds) ⌝ }
-    ensures { λ b. ⌜ b ≡ (allowed (now (s .entry)) h (o .0) (p .0) && truth (now (s .entry)) h (now (facts .entry)) (now (verdicts .entry)) (precondition (now (s .entry)) h (o .0))) ⌝ }
-    ensures { λ b. ⌜ Memo (now (s .entry)) h (now (facts .entry)) (now (verdicts .entry)) (now (known .exit)) (now (holds .exit)) ⌝ }
+    requires { ⌜ Memo (now s) h (held (now s) (now facts) (now lists)) (now verdicts) (now known) (now holds) ⌝ }
+    ensures { λ b. ⌜ b ≡ (allowed (now (s .entry)) h (o .0) (p .0) && truth (now (s .entry)) h (held (now (s .entry)) (now (facts .entry)) (now (lists .entry))) (now (verdicts .entry)) (precondition (now (s .entry)) h (o .0))) ⌝ }
+    ensures { λ b. ⌜ Memo (now (s .entry)) h (held (now (s .entry)) (now (facts .entry)) (now (lists .entry))) (now (verdicts .entry)) (now (known .exit)) (now (holds .exit)) ⌝ }
 {
     if !allows(s, h, o, p) {
         return false;
@@ -75,7 +77,7 @@ fn recall(
     if known[i] {
         return holds[i];
     }
-    let b = precondition_holds(s, h, facts, verdicts, o);
+    let b = precondition_holds(s, h, facts, lists, verdicts, o);
     holds[i] = b;
     known[i] = true;
     b
@@ -86,6 +88,7 @@ fn perform_step(
     s: &[i64],
     h: Header,
     facts: &[i64],
+    lists: &[i64],
     verdicts: &[i64],
     states: &mut [i64],
     known: &mut [bool],
@@ -93,18 +96,18 @@ fn perform_step(
     step: usize,
     wanted: Wanted,
 ) -> usize
-    requires { ⌜ Steppable (now s) h (now facts) (now verdicts) step ⌝ }
+    requires { ⌜ Steppable (now s) h (held (now s) (now facts) (now lists)) (now verdicts) step ⌝ }
     requires { ⌜ StatesIn (now s) h (now states) × (performs (now s) h step ≡ true) ⌝ }
-    requires { ⌜ Memo (now s) h (now facts) (now verdicts) (now known) (now holds) ⌝ }
-    ensures { λ r. ⌜ r ≡ answerRoute (now (s .entry)) h step (attempted (now (s .entry)) h (now (facts .entry)) (now (verdicts .entry)) (now (states .entry)) (personaAt (now (s .entry)) h step) (operationAt (now (s .entry)) h step) wanted) ⌝ }
-    ensures { λ r. ⌜ now (states .exit) ≡ attemptedStates (now (s .entry)) h (now (facts .entry)) (now (verdicts .entry)) (now (states .entry)) (personaAt (now (s .entry)) h step) (operationAt (now (s .entry)) h step) wanted ⌝ }
-    ensures { λ r. ⌜ Memo (now (s .entry)) h (now (facts .entry)) (now (verdicts .entry)) (now (known .exit)) (now (holds .exit)) ⌝ }
+    requires { ⌜ Memo (now s) h (held (now s) (now facts) (now lists)) (now verdicts) (now known) (now holds) ⌝ }
+    ensures { λ r. ⌜ r ≡ answerRoute (now (s .entry)) h step (attempted (now (s .entry)) h (held (now (s .entry)) (now (facts .entry)) (now (lists .entry))) (now (verdicts .entry)) (now (states .entry)) (personaAt (now (s .entry)) h step) (operationAt (now (s .entry)) h step) wanted) ⌝ }
+    ensures { λ r. ⌜ now (states .exit) ≡ attemptedStates (now (s .entry)) h (held (now (s .entry)) (now (facts .entry)) (now (lists .entry))) (now (verdicts .entry)) (now (states .entry)) (personaAt (now (s .entry)) h step) (operationAt (now (s .entry)) h step) wanted ⌝ }
+    ensures { λ r. ⌜ Memo (now (s .entry)) h (held (now (s .entry)) (now (facts .entry)) (now (lists .entry))) (now (verdicts .entry)) (now (known .exit)) (now (holds .exit)) ⌝ }
 {
     let first = first_route(s, h, step);
     let count = routes(s, h, step);
     let o = Operation(step_word(s, h, step, place::STEP_OPERATION));
     let p = Persona(step_word(s, h, step, place::STEP_PERSONA));
-    let b = recall(s, h, facts, verdicts, known, holds, p, o);
+    let b = recall(s, h, facts, lists, verdicts, known, holds, p, o);
     match attempt_known(s, h, b, states, p, o, wanted) {
         Count::Is(j) => first + j,
         Count::Refused(_) => first + count - 1,
@@ -112,14 +115,21 @@ fn perform_step(
 }
 
 // A branch: its first route where its node is true, else its second.
-fn branch(s: &[i64], h: Header, facts: &[i64], verdicts: &[i64], step: usize) -> usize
-    requires { ⌜ Steppable (now s) h (now facts) (now verdicts) step ⌝ }
+fn branch(
+    s: &[i64],
+    h: Header,
+    facts: &[i64],
+    lists: &[i64],
+    verdicts: &[i64],
+    step: usize,
+) -> usize
+    requires { ⌜ Steppable (now s) h (held (now s) (now facts) (now lists)) (now verdicts) step ⌝ }
     requires { ⌜ performs (now s) h step ≡ false ⌝ }
-    ensures { λ r. ⌜ r ≡ branchRoute (now (s .entry)) h step (truth (now (s .entry)) h (now (facts .entry)) (now (verdicts .entry)) (nodeAt (now (s .entry)) h step)) ⌝ }
+    ensures { λ r. ⌜ r ≡ branchRoute (now (s .entry)) h step (truth (now (s .entry)) h (held (now (s .entry)) (now (facts .entry)) (now (lists .entry))) (now (verdicts .entry)) (nodeAt (now (s .entry)) h step)) ⌝ }
 {
     let first = first_route(s, h, step);
     let node = Node(step_word(s, h, step, place::STEP_NODE));
-    if is_true(s, h, facts, verdicts, node) {
+    if is_true(s, h, facts, lists, verdicts, node) {
         first
     } else {
         first + 1
@@ -131,6 +141,7 @@ fn advance(
     s: &[i64],
     h: Header,
     facts: &[i64],
+    lists: &[i64],
     verdicts: &[i64],
     states: &mut [i64],
     known: &mut [bool],
@@ -138,17 +149,28 @@ fn advance(
     step: usize,
     wanted: Wanted,
 ) -> usize
-    requires { ⌜ Steppable (now s) h (now facts) (now verdicts) step ⌝ }
+    requires { ⌜ Steppable (now s) h (held (now s) (now facts) (now lists)) (now verdicts) step ⌝ }
     requires { ⌜ StatesIn (now s) h (now states) ⌝ }
-    requires { ⌜ Memo (now s) h (now facts) (now verdicts) (now known) (now holds) ⌝ }
-    ensures { λ r. ⌜ r ≡ routeTaken (now (s .entry)) h (now (facts .entry)) (now (verdicts .entry)) (now (states .entry)) step wanted ⌝ }
-    ensures { λ r. ⌜ now (states .exit) ≡ statesThen (now (s .entry)) h (now (facts .entry)) (now (verdicts .entry)) (now (states .entry)) step wanted ⌝ }
-    ensures { λ r. ⌜ Memo (now (s .entry)) h (now (facts .entry)) (now (verdicts .entry)) (now (known .exit)) (now (holds .exit)) ⌝ }
+    requires { ⌜ Memo (now s) h (held (now s) (now facts) (now lists)) (now verdicts) (now known) (now holds) ⌝ }
+    ensures { λ r. ⌜ r ≡ routeTaken (now (s .entry)) h (held (now (s .entry)) (now (facts .entry)) (now (lists .entry))) (now (verdicts .entry)) (now (states .entry)) step wanted ⌝ }
+    ensures { λ r. ⌜ now (states .exit) ≡ statesThen (now (s .entry)) h (held (now (s .entry)) (now (facts .entry)) (now (lists .entry))) (now (verdicts .entry)) (now (states .entry)) step wanted ⌝ }
+    ensures { λ r. ⌜ Memo (now (s .entry)) h (held (now (s .entry)) (now (facts .entry)) (now (lists .entry))) (now (verdicts .entry)) (now (known .exit)) (now (holds .exit)) ⌝ }
 {
     if step_word(s, h, step, place::STEP_KIND) == 0 {
-        perform_step(s, h, facts, verdicts, states, known, holds, step, wanted)
+        perform_step(
+            s,
+            h,
+            facts,
+            lists,
+            verdicts,
+            states,
+            known,
+            holds,
+            step,
+            wanted,
+        )
     } else {
-        branch(s, h, facts, verdicts, step)
+        branch(s, h, facts, lists, verdicts, step)
     }
 }
 
@@ -198,17 +220,18 @@ pub fn run(
     s: &[i64],
     h: Header,
     facts: &[i64],
+    lists: &[i64],
     verdicts: &[i64],
     states: &mut [i64],
     flow: Flow,
     wanted: &[i64],
     path: &mut [u16],
 ) -> Counted
-    requires { ⌜ Runnable (now s) h (now facts) (now verdicts) (now states) (flow .0) (now path) ⌝ }
+    requires { ⌜ Runnable (now s) h (held (now s) (now facts) (now lists)) (now verdicts) (now states) (flow .0) (now path) ⌝ }
     requires { ⌜ length (now wanted) ≡ stepsOf (now s) h (flow .0) ⌝ }
-    ensures { λ r. ⌜ r ≡ ranWalk (now (s .entry)) h (now (facts .entry)) (now (verdicts .entry)) (now (states .entry)) (flow .0) (now (wanted .entry)) ⌝ }
-    ensures { λ r. ⌜ now (path .exit) ≡ ranPath (now (s .entry)) h (now (facts .entry)) (now (verdicts .entry)) (now (states .entry)) (flow .0) (now (wanted .entry)) (now (path .entry)) ⌝ }
-    ensures { λ r. ⌜ now (states .exit) ≡ ranStates (now (s .entry)) h (now (facts .entry)) (now (verdicts .entry)) (now (states .entry)) (flow .0) (now (wanted .entry)) ⌝ }
+    ensures { λ r. ⌜ r ≡ ranWalk (now (s .entry)) h (held (now (s .entry)) (now (facts .entry)) (now (lists .entry))) (now (verdicts .entry)) (now (states .entry)) (flow .0) (now (wanted .entry)) ⌝ }
+    ensures { λ r. ⌜ now (path .exit) ≡ ranPath (now (s .entry)) h (held (now (s .entry)) (now (facts .entry)) (now (lists .entry))) (now (verdicts .entry)) (now (states .entry)) (flow .0) (now (wanted .entry)) (now (path .entry)) ⌝ }
+    ensures { λ r. ⌜ now (states .exit) ≡ ranStates (now (s .entry)) h (held (now (s .entry)) (now (facts .entry)) (now (lists .entry))) (now (verdicts .entry)) (now (states .entry)) (flow .0) (now (wanted .entry)) ⌝ }
 {
     let mut known = [false; Header::OPERATIONS];
     let mut holds = [false; Header::OPERATIONS];
@@ -221,6 +244,7 @@ pub fn run(
             s,
             h,
             facts,
+            lists,
             verdicts,
             states,
             &mut known,

@@ -1,6 +1,6 @@
 -- The checker's parts joined: the first bad record through all tables.
 -- Assumes nothing.
-use mathlib.Core.Path.{_≡_, refl, sym, subst, ap, _∙_}
+use mathlib.Core.Path.{_≡_, refl, sym, subst, ap}
 use mathlib.Core.Bool.{Bool, true, false}
 use mathlib.Core.List.{List, [], _∷_, _++_}
 use Prim.Native.Nat.{ℕ, _+_, _*_, _≤_, _<_}
@@ -23,6 +23,7 @@ use Rattle.records.proofs.Chain.{First, none, here, later, total, first-scanned
 use Rattle.records.proofs.Acceptance.{found, bad-record, no-fault}
 use Rattle.item.specs.declared.Item.{Item}
 use Rattle.sheet_nodes.specs.Arrays.{Empty, Filled}
+use Rattle.sheet_nodes.proofs.Scopes.{shut-is}
 use Rattle.sheet_states.specs.Flags.{Declared}
 use Rattle.sheet_roots.specs.Roots.{Known, Names, NamedByNodes}
 use Rattle.sheet.specs.Parts.{upperTables, middleTables, lowerTables, Fresh, Unmarked}
@@ -109,16 +110,23 @@ module _ (s : List ℤ) (h : Header) where
 
 -- ---- from the nodes' arrays
 
-pub known-of : {s : List ℤ} {h : Header} {lows highs : List ℤ} {sorts tops : List ℕ} {named : List Bool}
-    → Filled s h (h .nodes) lows highs sorts tops named → Known s h sorts tops
-known-of f = record { type = λ j l. ap (λ (x : Item). x .sort) (f .item j l); top = f .top }
+pub known-of : {s : List ℤ} {h : Header} {lows highs : List ℤ} {sorts tops scopes : List ℕ} {named : List Bool}
+    → Filled s h (h .nodes) lows highs sorts tops scopes named → Known s h sorts scopes tops
+known-of {s} {h} f =
+    record {
+      type = record {
+        sort = λ j l. ap (λ (x : Item). x .sort) (f .item j l);
+        shut = λ j l. shut-is s h j (λ i m. f .good i (omega arith)) (f .scope j l);
+      };
+      top = f .top;
+    }
 
 -- flags by how many they are
 pub own-names : {h : Header} {m : ℕ} {f : ℕ → Bool} {named : List Bool} → Names h m f named → Names h (length named) f named
 own-names {h} {m} {f} {named} n = subst (λ (k : ℕ). Names h k f named) (sym (n .long)) n
 
-pub names-of : {s : List ℤ} {h : Header} {lows highs : List ℤ} {sorts tops : List ℕ} {named : List Bool} → Sized s h
-    → Filled s h (h .nodes) lows highs sorts tops named → Names h (length named) (NamedByNodes s h) named
+pub names-of : {s : List ℤ} {h : Header} {lows highs : List ℤ} {sorts tops scopes : List ℕ} {named : List Bool} → Sized s h
+    → Filled s h (h .nodes) lows highs sorts tops scopes named → Names h (length named) (NamedByNodes s h) named
 names-of z f = own-names (record { room = z .limits .nodes; long = f .name-long; is = f .name })
 
 pub at-most : (f : ℕ → Bool) (n : ℕ) {k : ℕ} → k ≡ firstFail f 0 n → k ≤ n
@@ -133,9 +141,9 @@ own-declared {s} {h} {m} {k} {t} d = subst (λ (n : ℕ). Declared s h n k t) (s
 
 -- ---- arrays as they are made
 
-pub empty-of : {sorts : List ℕ} {named : List Bool} → Fresh sorts named
-    → Empty (replicate 1024 (pos 0)) (replicate 1024 (pos 0)) sorts (replicate 1024 0) named
-empty-of f = record { low = refl; high = refl; sort = f .sort; top = refl; name = f .name }
+pub empty-of : {sorts scopes : List ℕ} {named : List Bool} → Fresh sorts scopes named
+    → Empty (replicate 1024 (pos 0)) (replicate 1024 (pos 0)) sorts (replicate 1024 0) scopes named
+empty-of f = record { low = refl; high = refl; sort = f .sort; top = refl; scope = f .scope; name = f .name }
 
 pub unmarked : {h : Header} (e : ℕ) → h .entities ≤ e → Unmarked h (replicate (256 * e) false) (replicate (16 * e) 0)
 unmarked e l =

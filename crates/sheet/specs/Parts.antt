@@ -40,9 +40,10 @@ lowerTables s h =
     ∷ record { size = h .routes; good = goodRoute s h }
     ∷ []
 
--- the nodes' types and the flags of named nodes before the scan
-pub record Fresh (sorts : List ℕ) (named : List Bool) : Type 0 where
+-- the nodes' types, the elements that their trees cite and the flags of named nodes before the scan
+pub record Fresh (sorts scopes : List ℕ) (named : List Bool) : Type 0 where
   pub sort : sorts ≡ replicate 1024 0
+  pub scope : scopes ≡ replicate 1024 0
   pub name : named ≡ replicate 1024 false
 
 -- the flags of declared transitions and the stamps of outcomes before the scan: none is set, and there are enough for the entities
@@ -53,12 +54,12 @@ pub record Unmarked (h : Header) (declared : List Bool) (seen : List ℕ) : Type
   pub fresh : seen ≡ replicate (length seen) 0
 
 -- after the facts, nodes and rules: what the scan of entities, transitions, operations and effects asks
-pub record Middle (s : List ℤ) (h : Header) (sorts : List ℕ) (named : List Bool) : Type 0 where
-  pub typed : Typed s h sorts
+pub record Middle (s : List ℤ) (h : Header) (sorts scopes : List ℕ) (named : List Bool) : Type 0 where
+  pub typed : Typed s h sorts scopes
   pub names : Names h (length named) (namedByRules s h (h .rules)) named
 
 -- what the scan of flows, steps and routes asks
-pub record Lower (s : List ℤ) (h : Header) (sorts : List ℕ) (named : List Bool) : Type 0 where
-  pub typed : Typed s h sorts
+pub record Lower (s : List ℤ) (h : Header) (sorts scopes : List ℕ) (named : List Bool) : Type 0 where
+  pub typed : Typed s h sorts scopes
   pub operations : (k : ℕ) → k < h .operations → goodOperation s h k ≡ true
   pub names : Names h (length named) (namedByOperations s h (h .operations)) named

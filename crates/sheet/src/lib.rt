@@ -28,10 +28,10 @@ use sheet_states::check_transitions;
 
 // The first bad record of facts, nodes and rules, counted through them, or how many they are. The nodes' value ranges and the greatest rules
 // that their trees cite are kept for that long.
-fn upper(s: &[i64], h: Header, sorts: &mut [u16], named: &mut [bool]) -> usize
-    requires { ⌜ Sized (now s) h × Fresh (now sorts) (now named) ⌝ }
+fn upper(s: &[i64], h: Header, sorts: &mut [u16], scopes: &mut [u8], named: &mut [bool]) -> usize
+    requires { ⌜ Sized (now s) h × Fresh (now sorts) (now scopes) (now named) ⌝ }
     ensures { λ k. ⌜ First (upperTables (now (s .entry)) h) k ⌝ }
-    ensures { λ k. ⌜ (h .facts + h .nodes + h .rules ≤ k → Middle (now (s .entry)) h (now (sorts .exit)) (now (named .exit))) ⌝ }
+    ensures { λ k. ⌜ (h .facts + h .nodes + h .rules ≤ k → Middle (now (s .entry)) h (now (sorts .exit)) (now (scopes .exit)) (now (named .exit))) ⌝ }
 {
     let facts = check_facts(s, h);
     if facts < h.facts {
@@ -40,11 +40,11 @@ fn upper(s: &[i64], h: Header, sorts: &mut [u16], named: &mut [bool]) -> usize
     let mut lows = [0i32; Header::NODES];
     let mut highs = [0i32; Header::NODES];
     let mut tops = [0u8; Header::NODES];
-    let nodes = check_nodes(s, h, &mut lows, &mut highs, sorts, &mut tops, named);
+    let nodes = check_nodes(s, h, &mut lows, &mut highs, sorts, &mut tops, scopes, named);
     if nodes < h.nodes {
         return h.facts + nodes;
     }
-    let rules = check_rules(s, h, sorts, &tops, named);
+    let rules = check_rules(s, h, sorts, scopes, &tops, named);
     h.first_rule() + rules
 }
 
@@ -53,11 +53,12 @@ fn middle_on(
     s: &[i64],
     h: Header,
     sorts: &[u16],
+    scopes: &[u8],
     named: &mut [bool],
     declared: &mut [bool],
     seen: &mut [usize],
 ) -> usize
-    requires { ⌜ Sized (now s) h × (goodGroups (now s) h ≡ true) × Middle (now s) h (now sorts) (now named) × Unmarked h (now declared) (now seen) ⌝ }
+    requires { ⌜ Sized (now s) h × (goodGroups (now s) h ≡ true) × Middle (now s) h (now sorts) (now scopes) (now named) × Unmarked h (now declared) (now seen) ⌝ }
     ensures { λ k. ⌜ First (middleTables (now (s .entry)) h) k ⌝ }
     ensures { λ k. ⌜ (h .entities + h .transitions + h .operations + h .effects ≤ k → Names h (length (now (named .entry))) (namedByOperations (now (s .entry)) h (h .operations)) (now (named .exit))) ⌝ }
 {
@@ -69,7 +70,7 @@ fn middle_on(
     if transitions < h.transitions {
         return h.entities + transitions;
     }
-    let operations = check_operations(s, h, sorts, named);
+    let operations = check_operations(s, h, sorts, scopes, named);
     if operations < h.operations {
         return h.entities + h.transitions + operations;
     }
@@ -77,32 +78,32 @@ fn middle_on(
 }
 
 // The same of entities, transitions, operations and effects. Arrays are cleared before use, so few entities get small ones.
-fn middle(s: &[i64], h: Header, sorts: &[u16], named: &mut [bool]) -> usize
-    requires { ⌜ Sized (now s) h × (goodGroups (now s) h ≡ true) × Middle (now s) h (now sorts) (now named) ⌝ }
+fn middle(s: &[i64], h: Header, sorts: &[u16], scopes: &[u8], named: &mut [bool]) -> usize
+    requires { ⌜ Sized (now s) h × (goodGroups (now s) h ≡ true) × Middle (now s) h (now sorts) (now scopes) (now named) ⌝ }
     ensures { λ k. ⌜ First (middleTables (now (s .entry)) h) k ⌝ }
     ensures { λ k. ⌜ (h .entities + h .transitions + h .operations + h .effects ≤ k → Names h (length (now (named .entry))) (namedByOperations (now (s .entry)) h (h .operations)) (now (named .exit))) ⌝ }
 {
     if h.entities <= 4 {
         let mut declared = [false; 1024];
         let mut seen = [0usize; 64];
-        middle_on(s, h, sorts, named, &mut declared, &mut seen)
+        middle_on(s, h, sorts, scopes, named, &mut declared, &mut seen)
     } else {
         let mut declared = [false; 8192];
         let mut seen = [0usize; 512];
-        middle_on(s, h, sorts, named, &mut declared, &mut seen)
+        middle_on(s, h, sorts, scopes, named, &mut declared, &mut seen)
     }
 }
 
 // The same of flows, steps and routes.
-fn lower(s: &[i64], h: Header, sorts: &[u16], named: &mut [bool]) -> usize
-    requires { ⌜ Sized (now s) h × (goodGroups (now s) h ≡ true) × Lower (now s) h (now sorts) (now named) ⌝ }
+fn lower(s: &[i64], h: Header, sorts: &[u16], scopes: &[u8], named: &mut [bool]) -> usize
+    requires { ⌜ Sized (now s) h × (goodGroups (now s) h ≡ true) × Lower (now s) h (now sorts) (now scopes) (now named) ⌝ }
     ensures { λ k. ⌜ First (lowerTables (now (s .entry)) h) k ⌝ }
 {
     let flows = check_flows(s, h);
     if flows < h.flows {
         return flows;
     }
-    let steps = check_steps(s, h, sorts, named);
+    let steps = check_steps(s, h, sorts, scopes, named);
     if steps < h.steps {
         return h.flows + steps;
     }
@@ -115,16 +116,17 @@ fn first_bad(s: &[i64], h: Header) -> usize
     ensures { λ k. ⌜ k ≡ firstBad (now (s .entry)) h ⌝ }
 {
     let mut sorts = [0u16; Header::NODES];
+    let mut scopes = [0u8; Header::NODES];
     let mut named = [false; Header::NODES];
-    let a = upper(s, h, &mut sorts, &mut named);
+    let a = upper(s, h, &mut sorts, &mut scopes, &mut named);
     if a < h.first_entity() {
         return a;
     }
-    let b = middle(s, h, &sorts, &mut named);
+    let b = middle(s, h, &sorts, &scopes, &mut named);
     if b < h.entities + h.transitions + h.operations + h.effects {
         return h.first_entity() + b;
     }
-    h.first_flow() + lower(s, h, &sorts, &mut named)
+    h.first_flow() + lower(s, h, &sorts, &scopes, &mut named)
 }
 
 // Judges any words: accepted, or refused 1, 2 or 3 with its place.

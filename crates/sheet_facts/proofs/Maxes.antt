@@ -20,23 +20,23 @@ use Rattle.signed.proofs.Parts.{eq-true, true-eq}
 use Rattle.signed.proofs.Bounds.{in-true}
 use Rattle.signed.proofs.Numbers.{num-is, num-pos, in-num}
 use Rattle.words.specs.declared.Record.{Record}
-use Rattle.words.specs.Record.{number, recordAt}
+use Rattle.words.specs.Record.{recordAt}
 use Rattle.layout.specs.Tables.{fact}
 use Rattle.node.specs.FactTypes.{factTypeOf}
-use Rattle.records.specs.Facts.{maxOf, setOf, agree, goodFact}
-use Rattle.sheet_facts.specs.Maxes.{goodAlone, agrees, noted}
+use Rattle.records.specs.Facts.{valueType, maxOf, setOf, agree, goodFact}
+use Rattle.sheet_facts.specs.Maxes.{valued, goodAlone, agrees, noted}
 
 -- an earlier fact of set x whose max is m
 pub record Source (s : List ℤ) (k x m : ℕ) : Type 0 where
   pub j : ℕ
   pub before : j < k
-  pub enum : fact s j .w0 ≡ 2
+  pub enum : valued (fact s j) ≡ 2
   pub set : fact s j .w5 ≡ x
   pub max : fact s j .w2 ≡ m
 
 pub record Noted (s : List ℤ) (k : ℕ) (t : List ℕ) : Type 0 where
   pub long : length t ≡ 128
-  pub held : (j : ℕ) → j < k → fact s j .w0 ≡ 2 → getD t (fact s j .w5) 0 ≡ fact s j .w2
+  pub held : (j : ℕ) → j < k → valued (fact s j) ≡ 2 → getD t (fact s j .w5) 0 ≡ fact s j .w2
   pub some : (x : ℕ) → x < 128 → (getD t x 0 ≡ 256) ⊎ Source s k x (getD t x 0)
   pub good : (j : ℕ) → j < k → goodFact s j ≡ true
 
@@ -50,11 +50,11 @@ none s =
     }
 
 -- an Enum fact that is good by itself has a set below 128 and a max below 256
-alone-set : (s : List ℤ) (k : ℕ) → goodAlone s k ≡ true → fact s k .w0 ≡ 2 → fact s k .w5 < 128
+alone-set : (s : List ℤ) (k : ℕ) → goodAlone s k ≡ true → valued (fact s k) ≡ 2 → fact s k .w5 < 128
 unfolding goodAlone recordAt factTypeOf
 alone-set s k p e = let q = simp tests at (rw e at p) in omega (arith, q .0 .0 .1)
 
-alone-max : (s : List ℤ) (k : ℕ) → goodAlone s k ≡ true → fact s k .w0 ≡ 2 → fact s k .w2 ≤ 255
+alone-max : (s : List ℤ) (k : ℕ) → goodAlone s k ≡ true → valued (fact s k) ≡ 2 → fact s k .w2 ≤ 255
 unfolding goodAlone recordAt factTypeOf
 alone-max s k p e =
     let q = simp and-iff at (rw e at p) in
@@ -65,17 +65,18 @@ unfolding goodFact goodAlone
 alone s k p = and-left _ (allBelow (λ j. agree s j k) k) p
 
 -- two facts agree unless both are Enums of one set with two maxes
-agree-enum : (s : List ℤ) (j k : ℕ) → agree s j k ≡ true → fact s j .w0 ≡ 2 → fact s k .w0 ≡ 2 → fact s j .w5 ≡ fact s k .w5
+agree-enum : (s : List ℤ) (j k : ℕ) → agree s j k ≡ true → valued (fact s j) ≡ 2 → valued (fact s k) ≡ 2 → fact s j .w5 ≡ fact s k .w5
     → fact s j .w2 ≡ fact s k .w2
 unfolding agree recordAt
 agree-enum s j k p a b e =
-    ap num (eq-true (maxOf s j) (maxOf s k) (rw (eq-eqb (number s j 0) 2 a, eq-eqb (number s k 0) 2 b, eq-eqb (setOf s j) (setOf s k) e) at p))
+    ap num (eq-true (maxOf s j) (maxOf s k) (rw (eq-eqb (valueType s j) 2 a, eq-eqb (valueType s k) 2 b, eq-eqb (setOf s j) (setOf s k) e) at p))
 
-enum-agree : (s : List ℤ) (j k : ℕ) → (fact s j .w0 ≡ 2 → fact s k .w0 ≡ 2 → fact s j .w5 ≡ fact s k .w5 → maxOf s j ≡ maxOf s k) → agree s j k ≡ true
+enum-agree : (s : List ℤ) (j k : ℕ)
+    → (valued (fact s j) ≡ 2 → valued (fact s k) ≡ 2 → fact s j .w5 ≡ fact s k .w5 → maxOf s j ≡ maxOf s k) → agree s j k ≡ true
 unfolding agree recordAt
-enum-agree s j k h = go (eqb (number s j 0) 2) refl (eqb (number s k 0) 2) refl (eqb (setOf s j) (setOf s k)) refl
+enum-agree s j k h = go (eqb (valueType s j) 2) refl (eqb (valueType s k) 2) refl (eqb (setOf s j) (setOf s k)) refl
   where
-    go : (p : Bool) → eqb (number s j 0) 2 ≡ p → (q : Bool) → eqb (number s k 0) 2 ≡ q → (r : Bool) → eqb (setOf s j) (setOf s k) ≡ r
+    go : (p : Bool) → eqb (valueType s j) 2 ≡ p → (q : Bool) → eqb (valueType s k) 2 ≡ q → (r : Bool) → eqb (setOf s j) (setOf s k) ≡ r
         → (not (p && q && r) || eqZ (maxOf s j) (maxOf s k)) ≡ true
     go true a true b true e = true-eq (maxOf s j) (maxOf s k) (h (eqb-true _ _ a) (eqb-true _ _ b) (eqb-true _ _ e))
     go true a true b false e = refl
@@ -88,17 +89,17 @@ module _ (s : List ℤ) (k : ℕ) (t : List ℕ) (n : Noted s k t) (a : goodAlon
 
   -- every earlier fact agrees, so the array's max is the fact's or none
   to-seen : allBelow (λ j. agree s j k) k ≡ true → agrees (fact s k) seen ≡ true
-  to-seen p = go (ℕ-discrete (fact s k .w0) 2)
+  to-seen p = go (ℕ-discrete (valued (fact s k)) 2)
     where
-      found : fact s k .w0 ≡ 2 → (seen ≡ 256) ⊎ Source s k (fact s k .w5) seen → agrees (fact s k) seen ≡ true
-      found e (inl z) = rw (eq-eqb (fact s k .w0) 2 e, eq-eqb seen 256 z)
+      found : valued (fact s k) ≡ 2 → (seen ≡ 256) ⊎ Source s k (fact s k .w5) seen → agrees (fact s k) seen ≡ true
+      found e (inl z) = rw (eq-eqb (valued (fact s k)) 2 e, eq-eqb seen 256 z)
       found e (inr w) =
           let same = agree-enum s (w .j) k (all-at (λ j. agree s j k) k p (w .j) (w .before)) (w .enum) e (w .set) in
-          or-true-right (not (eqb (fact s k .w0) 2) || eqb seen 256) (eqb seen (fact s k .w2)) (eq-eqb seen (fact s k .w2) (sym (w .max) ∙ same))
+          or-true-right (not (eqb (valued (fact s k)) 2) || eqb seen 256) (eqb seen (fact s k .w2)) (eq-eqb seen (fact s k .w2) (sym (w .max) ∙ same))
 
-      go : Dec (fact s k .w0 ≡ 2) → agrees (fact s k) seen ≡ true
+      go : Dec (valued (fact s k) ≡ 2) → agrees (fact s k) seen ≡ true
       go (yes e) = found e (n .some (fact s k .w5) (alone-set s k a e))
-      go (no d) = rw (ne-eqb (fact s k .w0) 2 d)
+      go (no d) = rw (ne-eqb (valued (fact s k)) 2 d)
 
   from-seen : agrees (fact s k) seen ≡ true → allBelow (λ j. agree s j k) k ≡ true
   from-seen p = all-of (λ j. agree s j k) k (λ j l. enum-agree s j k (λ x y e. words j (alone-max s k a y) (same j l x y e)))
@@ -106,12 +107,12 @@ module _ (s : List ℤ) (k : ℕ) (t : List ℕ) (n : Noted s k t) (a : goodAlon
       words : (j : ℕ) → fact s k .w2 ≤ 255 → fact s j .w2 ≡ fact s k .w2 → maxOf s j ≡ maxOf s k
       words j l e = unfold recordAt in num-pos (maxOf s j) e (omega (arith, l)) ∙ sym (num-is (maxOf s k) (omega (arith, l)))
 
-      same : (j : ℕ) → j < k → fact s j .w0 ≡ 2 → fact s k .w0 ≡ 2 → fact s j .w5 ≡ fact s k .w5 → fact s j .w2 ≡ fact s k .w2
+      same : (j : ℕ) → j < k → valued (fact s j) ≡ 2 → valued (fact s k) ≡ 2 → fact s j .w5 ≡ fact s k .w5 → fact s j .w2 ≡ fact s k .w2
       same j l x y e =
           let m : seen ≡ fact s j .w2 = rw (← e) (n .held j l x) in
           let few = alone-max s j (alone s j (n .good j l)) x in
           let none256 : eqb seen 256 ≡ false = ne-eqb seen 256 (λ z. omega (arith, m, few, z)) in
-          let is : eqb seen (fact s k .w2) ≡ true = rw (eq-eqb (fact s k .w0) 2 y, none256) at p in
+          let is : eqb seen (fact s k .w2) ≡ true = rw (eq-eqb (valued (fact s k)) 2 y, none256) at p in
           sym m ∙ eqb-true seen (fact s k .w2) is
 
 -- the scan's test is the definition's
@@ -126,8 +127,8 @@ judged s k t n = ⊎-elim yes′ no′ (bool-cases (goodAlone s k))
     no′ a = rw a
 
 -- a good fact has the max of every earlier Enum of its set
-agreed : (s : List ℤ) (k : ℕ) → goodFact s k ≡ true → (j : ℕ) → j < k → fact s j .w0 ≡ 2 → fact s k .w0 ≡ 2 → fact s j .w5 ≡ fact s k .w5
-    → fact s j .w2 ≡ fact s k .w2
+agreed : (s : List ℤ) (k : ℕ) → goodFact s k ≡ true → (j : ℕ) → j < k → valued (fact s j) ≡ 2 → valued (fact s k) ≡ 2
+    → fact s j .w5 ≡ fact s k .w5 → fact s j .w2 ≡ fact s k .w2
 unfolding goodFact goodAlone
 agreed s k g j l x y e =
     agree-enum s j k
@@ -135,7 +136,7 @@ agreed s k g j l x y e =
 
 -- one good fact more
 pub more : (s : List ℤ) (k : ℕ) (t : List ℕ) → Noted s k t → goodFact s k ≡ true → Noted s (k + 1) (noted (fact s k) t)
-more s k t n g = go (ℕ-discrete (fact s k .w0) 2)
+more s k t n g = go (ℕ-discrete (valued (fact s k)) 2)
   where
     m : goodAlone s k ≡ true
     m = alone s k g
@@ -143,32 +144,32 @@ more s k t n g = go (ℕ-discrete (fact s k .w0) 2)
     later : {x y : ℕ} → Source s k x y → Source s (k + 1) x y
     later w = record { j = w .j; before = omega (arith, w .before); enum = w .enum; set = w .set; max = w .max }
 
-    own : fact s k .w0 ≡ 2 → getD (set t (fact s k .w5) (fact s k .w2)) (fact s k .w5) 0 ≡ fact s k .w2
+    own : valued (fact s k) ≡ 2 → getD (set t (fact s k .w5) (fact s k .w2)) (fact s k .w5) 0 ≡ fact s k .w2
     own e = getD-set-same t (fact s k .w5) (fact s k .w2) 0 (omega (arith, n .long, alone-set s k m e))
 
-    older : fact s k .w0 ≡ 2 → (j : ℕ) → j < k → fact s j .w0 ≡ 2 → Dec (fact s j .w5 ≡ fact s k .w5)
+    older : valued (fact s k) ≡ 2 → (j : ℕ) → j < k → valued (fact s j) ≡ 2 → Dec (fact s j .w5 ≡ fact s k .w5)
         → getD (set t (fact s k .w5) (fact s k .w2)) (fact s j .w5) 0 ≡ fact s j .w2
     older e j l x (yes z) = rw z (own e ∙ sym (agreed s k g j l x e z))
     older e j l x (no z) = getD-set-other t (fact s k .w5) (fact s j .w5) (fact s k .w2) 0 z ∙ n .held j l x
 
-    newer : fact s k .w0 ≡ 2 → (x : ℕ) → x < 128 → Dec (x ≡ fact s k .w5)
+    newer : valued (fact s k) ≡ 2 → (x : ℕ) → x < 128 → Dec (x ≡ fact s k .w5)
         → (getD (set t (fact s k .w5) (fact s k .w2)) x 0 ≡ 256) ⊎ Source s (k + 1) x (getD (set t (fact s k .w5) (fact s k .w2)) x 0)
     newer e x l (yes z) = inr (record { j = k; before = omega arith; enum = e; set = sym z; max = rw z (sym (own e)) })
     newer e x l (no z) = rw (getD-set-other t (fact s k .w5) x (fact s k .w2) 0 z) (⊎-elim (λ y. inl y) (λ w. inr (later w)) (n .some x l))
 
-    go : Dec (fact s k .w0 ≡ 2) → Noted s (k + 1) (noted (fact s k) t)
+    go : Dec (valued (fact s k) ≡ 2) → Noted s (k + 1) (noted (fact s k) t)
     go (no d) =
-        rw (ne-eqb (fact s k .w0) 2 d) (record {
+        rw (ne-eqb (valued (fact s k)) 2 d) (record {
           long = n .long;
-          held = extend-one (λ (j : ℕ). fact s j .w0 ≡ 2 → getD t (fact s j .w5) 0 ≡ fact s j .w2) k (n .held) (λ e. absurd (d e));
+          held = extend-one (λ (j : ℕ). valued (fact s j) ≡ 2 → getD t (fact s j .w5) 0 ≡ fact s j .w2) k (n .held) (λ e. absurd (d e));
           some = λ x l. ⊎-elim (λ z. inl z) (λ w. inr (later w)) (n .some x l);
           good = extend-one (λ (j : ℕ). goodFact s j ≡ true) k (n .good) g;
         })
     go (yes e) =
-        rw (eq-eqb (fact s k .w0) 2 e) (record {
+        rw (eq-eqb (valued (fact s k)) 2 e) (record {
           long = length-set t (fact s k .w5) (fact s k .w2) ∙ n .long;
           held =
-              extend-one (λ (j : ℕ). fact s j .w0 ≡ 2 → getD (set t (fact s k .w5) (fact s k .w2)) (fact s j .w5) 0 ≡ fact s j .w2) k
+              extend-one (λ (j : ℕ). valued (fact s j) ≡ 2 → getD (set t (fact s k .w5) (fact s k .w2)) (fact s j .w5) 0 ≡ fact s j .w2) k
               (λ j l x. older e j l x (ℕ-discrete (fact s j .w5) (fact s k .w5))) (λ x. own e);
           some = λ x l. newer e x l (ℕ-discrete x (fact s k .w5));
           good = extend-one (λ (j : ℕ). goodFact s j ≡ true) k (n .good) g;

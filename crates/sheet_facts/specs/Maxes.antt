@@ -7,19 +7,21 @@ use mathlib.Core.List.{List}
 use lib.Dec.{eqb}
 use lib.ListN.{set}
 use Rattle.words.specs.declared.Record.{Record}
-use Rattle.words.specs.Record.{unused}
-use Rattle.layout.specs.Tables.{fact}
-use Rattle.records.specs.Facts.{typeRow, minOf, maxOf, defaultFlag, defaultOf, setOf, goodDefault}
+use Rattle.records.specs.Facts.{typeRow, minOf, maxOf, defaultFlag, defaultOf, setOf, goodDefault, goodTail}
 
 unfoldable pub goodAlone : List ℤ → ℕ → Bool
 goodAlone s k =
     typeRow s k .bounds (minOf s k) (maxOf s k)
     && typeRow s k .takesSet (setOf s k)
     && goodDefault (defaultFlag s k) (minOf s k) (maxOf s k) (defaultOf s k)
-    && unused 6 (fact s k)
+    && goodTail s k
+
+-- the type of a fact's values, from its record
+abbrev pub valued : Record → ℕ
+valued r = cond (eqb (r .w0) 5) (r .w6) (r .w0)
 
 abbrev pub agrees : Record → ℕ → Bool
-agrees r max = not (eqb (r .w0) 2) || eqb max 256 || eqb max (r .w2)
+agrees r max = not (eqb (valued r) 2) || eqb max 256 || eqb max (r .w2)
 
 abbrev pub noted : Record → List ℕ → List ℕ
-noted r t = cond (eqb (r .w0) 2) (set t (r .w5) (r .w2)) t
+noted r t = cond (eqb (valued r) 2) (set t (r .w5) (r .w2)) t

@@ -1,4 +1,5 @@
-// The scan of the facts. Facts of one set have one max: an array holds the max of each set met so far, and 256 where none was.
+// The scan of the facts. Enums of one set have one max, lists of them too: an array holds the max of each set met so far, and 256 where none
+// was.
 ghost use mathlib.Core.Path.{_≡_};
 ghost use Prim.Native.Nat.{_+_, _*_, _≤_, _<_};
 ghost use lib.ListN.{length};
@@ -6,17 +7,25 @@ ghost use Rattle.tables.specs.Scan.{firstFail};
 ghost use Rattle.layout.specs.Sized.{Sized};
 ghost use Rattle.layout.specs.Tables.{fact};
 ghost use Rattle.records.specs.Facts.{goodFact};
-ghost use Rattle.sheet_facts.specs.Maxes.{goodAlone, agrees, noted};
+ghost use Rattle.sheet_facts.specs.Maxes.{valued, goodAlone, agrees, noted};
 use layout::Header;
 use layout::place;
 use records::good_bounds;
 use records::good_default;
 use records::good_set;
+use records::good_tail;
+use records::value_type;
 use tables::entry;
 use words::Record;
 use words::record_at;
-use words::unused;
 use words::word;
+
+// The type of a fact's values.
+fn valued(r: Record) -> usize
+    ensures { λ t. ⌜ t ≡ valued r ⌝ }
+{
+    value_type(r.w0, r.w6)
+}
 
 fn good_alone(s: &[i64], k: usize, r: Record) -> bool
     requires { ⌜ (16 + 8 * k + 8 ≤ length (now s)) × (r ≡ fact (now s) k) ⌝ }
@@ -25,23 +34,24 @@ fn good_alone(s: &[i64], k: usize, r: Record) -> bool
     let min = word(s, k, place::FACT_MIN);
     let max = word(s, k, place::FACT_MAX);
     let default = word(s, k, place::FACT_DEFAULT);
-    good_bounds(r.w0, min, max)
-        & good_set(r.w0, r.w5)
+    let kind = valued(r);
+    good_bounds(kind, min, max)
+        & good_set(kind, r.w5)
         & good_default(r.w3, min, max, default)
-        & unused(6, r)
+        & good_tail(s, k, r)
 }
 
 fn agrees(r: Record, max: usize) -> bool
     ensures { λ b. ⌜ b ≡ agrees r max ⌝ }
 {
-    !(r.w0 == 2) | (max == 256) | (max == r.w2)
+    !(valued(r) == 2) | (max == 256) | (max == r.w2)
 }
 
 fn note(maxes: &mut [usize], r: Record)
     ensures { λ _. ⌜ now (maxes .exit) ≡ noted r (now (maxes .entry)) ⌝ }
 {
     let i = r.w5;
-    if r.w0 == 2 {
+    if valued(r) == 2 {
         if i < maxes.len() {
             maxes[i] = r.w2;
         }

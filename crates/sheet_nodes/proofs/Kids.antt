@@ -2,7 +2,7 @@
 -- Assumes nothing.
 use mathlib.Core.Path.{_≡_, refl, sym}
 use mathlib.Core.Bool.{Bool, true, false, not, cond, _&&_, _||_}
-use mathlib.Core.List.{List}
+use mathlib.Core.List.{List, [], _∷_}
 use Prim.Native.Nat.{ℕ, zero, suc, _≤_, _<_, max}
 use lib.Dec.{ltb, eqb}
 use native.Mathlib.Omega.{arith}
@@ -102,3 +102,12 @@ inside-kids n m c b l = record { first = one (c .count) (c .first) (c .second) b
     two zero a b p e = absurd (true-false e refl)
     two (suc zero) a b p e = absurd (true-false e refl)
     two (suc (suc k)) a b p e = omega (arith, p .1 .0)
+
+-- where the code counts a child, the list has one
+pub some-kids : (c : Kids) → (c .count ≡ 0 → ⊥) → kids c ≡ [] → ⊥
+some-kids c p e = go (c .count) refl (c .first) (c .second) e
+  where
+    go : (m : ℕ) → c .count ≡ m → (a b : ℕ) → upTo (c .count) a b ≡ [] → ⊥
+    go zero z a b f = p z
+    go (suc zero) z a b f = let x : a ∷ [] ≡ [] = rw z at f in let y : _≡_ {A = ℕ} 0 1 = cc in omega arith
+    go (suc (suc m)) z a b f = let x : a ∷ b ∷ [] ≡ [] = rw z at f in let y : _≡_ {A = ℕ} 0 1 = cc in omega arith

@@ -2,14 +2,17 @@
 -- Assumes nothing.
 use mathlib.Core.Path.{_≡_, refl, sym, ap, _∙_}
 use mathlib.Core.Bool.{Bool, true, false, cond, _&&_}
-use mathlib.Core.List.{List, [], _∷_}
-use Prim.Native.Nat.{ℕ, zero, suc, _≤_, _<_, max}
+use mathlib.Core.List.{List, []}
+use mathlib.Core.Logic.{_⊎_, inl, inr, ⊎-elim}
+use Prim.Native.Nat.{ℕ, suc, _≤_, _<_, max}
 use lib.IntN.{ℤ, pos}
 use lib.Dec.{eqb}
 use lib.ListN.{length, getD, set}
 use native.Mathlib.Omega.{arith}
+use native.Mathlib.Decide.{ℕ-discrete}
+use borrow.Author.Tests.{eq-eqb, ne-eqb}
 use Rattle.tables.specs.Lists.{allOf, distinct}
-use Rattle.tables.proofs.Bools.{and-left, and-right}
+use Rattle.tables.proofs.Bools.{bool-cases, and-left, and-right}
 use Rattle.signed.specs.Words.{num, bounded, within}
 use Rattle.words.specs.declared.Words.{Words}
 use Rattle.words.specs.Record.{numbersOf, unused}
@@ -20,20 +23,31 @@ use Rattle.item.proofs.Units.{align-none}
 use Rattle.node.specs.declared.Judgement.{Judgement}
 use Rattle.node.specs.declared.Kids.{Kids}
 use Rattle.node.specs.Rows.{rowOf, fits, converts}
-use Rattle.node.specs.Judged.{judged, judgedParent, upTo, kids}
+use Rattle.node.specs.Judged.{judged, judgedParent, kids}
 use Rattle.node.proofs.Judged.{small-of}
 use Rattle.node.proofs.Few.{sort-few}
-use Rattle.records.specs.Nodes.{goodChildren}
+use Rattle.node.proofs.OneKind.{no-cons}
+use Rattle.records.specs.Nodes.{goodChildren, goodNode}
 use Rattle.records.proofs.NodeLaws.{fact-few}
+use Rattle.node.proofs.OverLists.{binder}
+use Rattle.sheet_nodes.specs.Scopes.{joint, ownScope, nodeScope}
 use Rattle.sheet_nodes.specs.Arrays.{greatest}
 use Rattle.sheet_nodes.specs.Steps.{givenBy, leafGiven, Storable, Stored, Turn, Placed, Took, LeafAt, TookLeaf}
+use Rattle.sheet_nodes.proofs.Scopes.{Lists}
 use Rattle.sheet_nodes.proofs.Scan.{judged-good, judged-item}
-use Rattle.sheet_nodes.proofs.Turns.{few, cited-small, own-few, good-is, more}
+use Rattle.sheet_nodes.proofs.Turns.{few, cited-small, own-few, lists-of, stop-found, more, good-is-true}
 
 -- ---- what is taken of it
 
-module _ {s : List ℤ} {h : Header} {n : ℕ} {w : Words} {k : ℕ} {lows highs : List ℤ} {sorts tops : List ℕ}
-    (l : LeafAt s h n w k lows highs sorts tops) {r : Judgement} (er : r ≡ judged (rowOf k) (leafGiven s h w)) where
+own-scope-few : (k l : ℕ) → Lists k l → ownScope k l ≤ 128
+own-scope-few k l few = go (ℕ-discrete k 17)
+  where
+    go : Dec (k ≡ 17) → ownScope k l ≤ 128
+    go (yes e) = rw (eq-eqb k 17 e) (omega (arith, few .cites e))
+    go (no d) = rw (ne-eqb k 17 d) (omega arith)
+
+module _ {s : List ℤ} {h : Header} {n : ℕ} {w : Words} {k : ℕ} {lows highs : List ℤ} {sorts tops scopes : List ℕ}
+    (l : LeafAt s h n w k lows highs sorts tops scopes) {r : Judgement} (er : r ≡ judged (rowOf k) (leafGiven s h w)) where
   pub leaf-good : r .good ≡ judged (rowOf k) (leafGiven s h w) .good
   leaf-good = ap (λ (x : Judgement). x .good) er
 
@@ -69,6 +83,15 @@ module _ {s : List ℤ} {h : Header} {n : ℕ} {w : Words} {k : ℕ} {lows highs
     leaf-room ei eo =
         (omega (arith, l .room, l .tops-long), rw (eo, ei) (omega (arith, own-few k (leafGiven s h w) takes (l .begun .sized .limits .rules))))
 
+    leaf-lists : Lists k (num (w .w1))
+    leaf-lists = lists-of k (leafGiven s h w) takes (l .begun .sized .limits .facts)
+
+    pub leaf-list : {i : ℕ} → i ≡ num (w .w1) → k ≡ 17 → i < 128
+    leaf-list ei e = rw ei (leaf-lists .cites e)
+
+    pub leaf-scope-room : {i own : ℕ} → i ≡ num (w .w1) → own ≡ ownScope k i → (n < length scopes) × (own < 256)
+    leaf-scope-room ei eo = (omega (arith, l .room, l .scopes-long), rw (eo, ei) (omega (arith, own-scope-few k _ leaf-lists)))
+
     pub leaf-stored : {lows′ highs′ : List ℤ} {sorts′ : List ℕ} → Stored n (r .item) lows highs sorts lows′ highs′ sorts′
         → Stored n (judged (rowOf k) (leafGiven s h w) .item) lows highs sorts lows′ highs′ sorts′
     leaf-stored x = rw er at x
@@ -79,23 +102,16 @@ module _ {s : List ℤ} {h : Header} {n : ℕ} {w : Words} {k : ℕ} {lows highs
 pub no-kids : (c : Kids) → c .count ≡ 0 → kids c ≡ []
 no-kids c z = rw z
 
-pub some-kids : (c : Kids) → (c .count ≡ 0 → ⊥) → kids c ≡ [] → ⊥
-some-kids c p e = go (c .count) refl (c .first) (c .second) e
-  where
-    go : (m : ℕ) → c .count ≡ m → (a b : ℕ) → upTo (c .count) a b ≡ [] → ⊥
-    go zero z a b f = p z
-    go (suc zero) z a b f = let x : a ∷ [] ≡ [] = rw z at f in let y : _≡_ {A = ℕ} 0 1 = cc in omega arith
-    go (suc (suc m)) z a b f = let x : a ∷ b ∷ [] ≡ [] = rw z at f in let y : _≡_ {A = ℕ} 0 1 = cc in omega arith
-
-module _ {s : List ℤ} {h : Header} {n : ℕ} {lows highs : List ℤ} {sorts tops : List ℕ} {named : List Bool}
-    (t : Turn s h n lows highs sorts tops named) {w : Words} {k : ℕ} (c : Kids) (p : Placed s h n w k c) (z : c .count ≡ 0) where
-  pub leaf-at : LeafAt s h n w k lows highs sorts tops
+module _ {s : List ℤ} {h : Header} {n : ℕ} {lows highs : List ℤ} {sorts tops scopes : List ℕ} {named : List Bool}
+    (t : Turn s h n lows highs sorts tops scopes named) {w : Words} {k : ℕ} (c : Kids) (p : Placed s h n w k c) (z : c .count ≡ 0) where
+  pub leaf-at : LeafAt s h n w k lows highs sorts tops scopes
   leaf-at =
       record {
         begun = t .begun;
         leaf = sym (p .children) ∙ no-kids c z;
         long = record { low = t .filled .low-long; high = t .filled .high-long; sort = t .filled .sort-long };
         tops-long = t .filled .top-long;
+        scopes-long = t .filled .scope-long;
         room = few s h n t;
       }
 
@@ -115,13 +131,38 @@ module _ {s : List ℤ} {h : Header} {n : ℕ} {lows highs : List ℤ} {sorts to
   unfolding greatest
   top-is = rw (no-kids c z) (omega arith)
 
-  pub took-leaf : {b : Bool} {lows′ highs′ : List ℤ} {sorts′ tops′ : List ℕ}
-      → TookLeaf s h n w k b lows highs sorts tops lows′ highs′ sorts′ tops′ → Took s h n b lows′ highs′ sorts′ tops′ named
+  -- it is no quantifier
+  no-binder : (k ≡ 14) ⊎ (k ≡ 15) → ⊥
+  no-binder e = no-cons _ _ (sym (binder k e w .2) ∙ sym (p .children) ∙ no-kids c z)
+
+  scope-is : ownScope k (num (w .w1)) ≡ nodeScope k (num (w .w1)) scopes c
+  unfolding joint
+  scope-is = rw (ne-eqb k 14 (λ e. no-binder (inl e)), ne-eqb k 15 (λ e. no-binder (inr e)), z)
+
+  module _ {r : Judgement} (er : r ≡ judged (rowOf k) (leafGiven s h w)) where
+    abbrev turn : r ≡ judgedParent (rowOf k) (givenBy s h w c lows highs sorts)
+    turn = er ∙ given-is
+
+    own-below : r .good ≡ true → ownScope k (num (w .w1)) ≡ 132 → ⊥
+    own-below q e = omega (arith, own-scope-few k _ (leaf-lists leaf-at er q), e)
+
+    good-is : r .good ≡ goodNode s h n
+    good-is = ⊎-elim yes′ no′ (bool-cases (r .good))
+      where
+        yes′ : r .good ≡ true → r .good ≡ goodNode s h n
+        yes′ q = q ∙ good-is-true s h n t c p linked-is refl turn q scope-is (own-below q) top-is
+
+        no′ : r .good ≡ false → r .good ≡ goodNode s h n
+        no′ q = q ∙ stop-found s h n t c p linked-is refl turn q
+
+  pub took-leaf : {b : Bool} {lows′ highs′ : List ℤ} {sorts′ tops′ scopes′ : List ℕ}
+      → TookLeaf s h n w k b lows highs sorts tops scopes lows′ highs′ sorts′ tops′ scopes′ → Took s h n b lows′ highs′ sorts′ tops′ scopes′ named
   took-leaf u =
       record {
-        judged = u .answer ∙ sym (good-is s h n t c (p .words) (p .kind) (p .children) linked-is refl given-is);
+        judged = u .answer ∙ good-is refl;
         filled = λ e.
             let x = u .stored e in
-            rw (x .low, x .high, x .sort, u .top e)
-            (rw z at (more s h n t c (p .words) (p .kind) (p .children) linked-is refl given-is (sym (u .answer) ∙ e) top-is));
+            let q = sym (u .answer) ∙ e in
+            rw (x .low, x .high, x .sort, u .top e, u .scope e)
+            (rw z at (more s h n t c p linked-is refl (turn refl) q scope-is (own-below refl q) top-is));
       }

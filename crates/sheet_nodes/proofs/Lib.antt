@@ -1,5 +1,6 @@
 pub mod Kids
 pub mod Tops
+pub mod Scopes
 pub mod Scan
 pub mod Turns
 pub mod Leaves

@@ -14,12 +14,14 @@ use Rattle.layout.specs.Sized.{Sized}
 use Rattle.item.specs.declared.Item.{Item}
 use Rattle.item.specs.Items.{none, align}
 use Rattle.item.specs.Inner.{Small}
+use Rattle.node.specs.declared.Named.{Named}
 use Rattle.node.specs.declared.Given.{Given}
 use Rattle.node.specs.declared.Kids.{Kids}
 use Rattle.node.specs.Rows.{rowOf}
 use Rattle.node.specs.Judged.{kids, judged}
 use Rattle.records.specs.Facts.{goodFact}
 use Rattle.records.specs.Nodes.{nodeWords, namedFact, goodNode}
+use Rattle.sheet_nodes.specs.Scopes.{ownScope}
 use Rattle.sheet_nodes.specs.Arrays.{itemAt, Filled}
 
 -- what node n is worked out from, its children being in the arrays
@@ -44,9 +46,11 @@ givenBy s h w c lows highs sorts =
     }
 
 -- what a node without children is worked out from
+abbrev pub leafWith : Header → Words → Named → Given
+leafWith h w f = record { words = w; facts = h .facts; rules = h .rules; fact = f; x = none; y = none }
+
 abbrev pub leafGiven : List ℤ → Header → Words → Given
-leafGiven s h w =
-    record { words = w; facts = h .facts; rules = h .rules; fact = namedFact s (h .facts) (num (w .w1)); x = none; y = none }
+leafGiven s h w = leafWith h w (namedFact s (h .facts) (num (w .w1)))
 
 -- there are m entries, and the children's are among them
 pub record Inside (c : Kids) (m : ℕ) : Type 0 where
@@ -84,10 +88,10 @@ pub record Stored (n : ℕ) (x : Item) (lows highs : List ℤ) (sorts : List ℕ
   pub sort : sorts′ ≡ set sorts n (x .sort)
 
 -- the scan stands at node n
-pub record Turn (s : List ℤ) (h : Header) (n : ℕ) (lows highs : List ℤ) (sorts tops : List ℕ) (named : List Bool) : Type 0 where
+pub record Turn (s : List ℤ) (h : Header) (n : ℕ) (lows highs : List ℤ) (sorts tops scopes : List ℕ) (named : List Bool) : Type 0 where
   pub begun : Begun s h
   pub exists : n < h .nodes
-  pub filled : Filled s h n lows highs sorts tops named
+  pub filled : Filled s h n lows highs sorts tops scopes named
 
 -- the words, the kind and the children of node n
 pub record Placed (s : List ℤ) (h : Header) (n : ℕ) (w : Words) (k : ℕ) (c : Kids) : Type 0 where
@@ -96,20 +100,22 @@ pub record Placed (s : List ℤ) (h : Header) (n : ℕ) (w : Words) (k : ℕ) (c
   pub children : kids c ≡ rowOf k .children w
 
 -- and has judged it
-pub record Took (s : List ℤ) (h : Header) (n : ℕ) (good : Bool) (lows highs : List ℤ) (sorts tops : List ℕ) (named : List Bool) : Type 0 where
+pub record Took (s : List ℤ) (h : Header) (n : ℕ) (good : Bool) (lows highs : List ℤ) (sorts tops scopes : List ℕ) (named : List Bool) : Type 0 where
   pub judged : good ≡ goodNode s h n
-  pub filled : good ≡ true → Filled s h (suc n) lows highs sorts tops named
+  pub filled : good ≡ true → Filled s h (suc n) lows highs sorts tops scopes named
 
 -- what a node without children asks
-pub record LeafAt (s : List ℤ) (h : Header) (n : ℕ) (w : Words) (k : ℕ) (lows highs : List ℤ) (sorts tops : List ℕ) : Type 0 where
+pub record LeafAt (s : List ℤ) (h : Header) (n : ℕ) (w : Words) (k : ℕ) (lows highs : List ℤ) (sorts tops scopes : List ℕ) : Type 0 where
   pub begun : Begun s h
   pub leaf : rowOf k .children w ≡ []
   pub long : Long 1024 lows highs sorts
   pub tops-long : length tops ≡ 1024
+  pub scopes-long : length scopes ≡ 1024
   pub room : n < 1024
 
 -- it is judged, and where it is good it is in the arrays
-pub record TookLeaf (s : List ℤ) (h : Header) (n : ℕ) (w : Words) (k : ℕ) (good : Bool) (lows highs : List ℤ) (sorts tops : List ℕ) (lows′ highs′ : List ℤ) (sorts′ tops′ : List ℕ) : Type 0 where
+pub record TookLeaf (s : List ℤ) (h : Header) (n : ℕ) (w : Words) (k : ℕ) (good : Bool) (lows highs : List ℤ) (sorts tops scopes : List ℕ) (lows′ highs′ : List ℤ) (sorts′ tops′ scopes′ : List ℕ) : Type 0 where
   pub answer : good ≡ judged (rowOf k) (leafGiven s h w) .good
   pub stored : good ≡ true → Stored n (judged (rowOf k) (leafGiven s h w) .item) lows highs sorts lows′ highs′ sorts′
   pub top : good ≡ true → tops′ ≡ set tops n (cond (eqb k 8) (suc (num (w .w1))) 0)
+  pub scope : good ≡ true → scopes′ ≡ set scopes n (ownScope k (num (w .w1)))

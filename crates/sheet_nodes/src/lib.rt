@@ -1,7 +1,7 @@
-// The scan of the nodes, in order, with arrays for what later records ask of them: value ranges, types, the greatest rule that each
-// node's tree cites, and which nodes have been named.
+// The scan of the nodes, in order, with arrays for what later records ask of them: value ranges, types, of each node's tree the greatest rule
+// and the elements that it cites, and which nodes have been named.
 ghost use mathlib.Core.Path.{_≡_};
-ghost use mathlib.Core.Bool.{true, false, cond};
+ghost use mathlib.Core.Bool.{true, false, cond, _||_};
 ghost use mathlib.Core.List.{[]};
 ghost use Prim.Native.Nat.{ℕ, suc, _<_, _≤_, max};
 ghost use lib.Dec.{ltb, eqb};
@@ -13,8 +13,9 @@ ghost use Rattle.layout.specs.Header.{firstNode};
 ghost use Rattle.node.specs.Rows.{rowOf};
 ghost use Rattle.node.specs.Judged.{kids, judged, judgedParent};
 ghost use Rattle.records.specs.Nodes.{namedFact, goodChildren, goodNode};
+ghost use Rattle.sheet_nodes.specs.Scopes.{shut, joint, over, kidByte, ownScope, kidScope};
 ghost use Rattle.sheet_nodes.specs.Arrays.{greatest, Empty, Filled};
-ghost use Rattle.sheet_nodes.specs.Steps.{kidItem, givenBy, leafGiven, Inside, Long, Begun, Judgeable, Storable, Stored, Turn, Placed, Took, LeafAt, TookLeaf};
+ghost use Rattle.sheet_nodes.specs.Steps.{kidItem, givenBy, leafWith, leafGiven, Inside, Long, Begun, Judgeable, Storable, Stored, Turn, Placed, Took, LeafAt, TookLeaf};
 use item::Item;
 use item::align;
 use item::span;
@@ -22,15 +23,27 @@ use layout::Header;
 use node::Given;
 use node::Judgement;
 use node::Kids;
+use node::Named;
 use node::children;
 use node::judge_leaf;
 use node::judge_parent;
 use records::named_fact;
+use records::no_fact;
 use signed::num;
 use tables::flag;
 use tables::mark;
 use words::Words;
 use words::words_at;
+
+// The number of a tree, as specs/Scopes.antt has it: elements of several lists are cited; there is a quantifier, and no elements are cited
+// outside, or some are. A quantifier inside another has a number of its own.
+const SEVERAL: usize = 129;
+
+const QUANTIFIER: usize = 130;
+
+const OUTSIDE: usize = 131;
+
+const NESTED: usize = 132;
 
 // Whether the children come before node n, have not been named, and are not the same node twice.
 fn linked(named: &[bool], n: usize, c: Kids) -> bool
@@ -55,37 +68,44 @@ fn kid_item(lows: &[i32], highs: &[i32], sorts: &[u16], on: bool, j: usize) -> I
     }
 }
 
-// The fact that a node of kind number k names; it is looked up where the kind names one.
-fn fact_of(s: &[i64], h: Header, k: usize, f: usize) -> Item
-    requires { ⌜ Begun (now s) h ⌝ }
-    ensures { λ x. ⌜ (k ≡ 3 → x ≡ namedFact (now (s .entry)) (h .facts) f) ⌝ }
+fn leaf_given(h: Header, w: Words, fact: Named) -> Given
+    ensures { λ g. ⌜ g ≡ leafWith h w fact ⌝ }
 {
-    match k {
-        0..=2 => span(0, 0, 0),
-        3 => named_fact(s, h.facts, f),
-        4.. => span(0, 0, 0),
+    Given {
+        words: w,
+        facts: h.facts,
+        rules: h.rules,
+        fact,
+        x: span(0, 0, 0),
+        y: span(0, 0, 0),
     }
 }
 
-// Judges a node of kind number k that has no children.
+// Judges a node of kind number k that has no children. The fact is looked up where the kind names one; such a kind is told by a literal, for
+// speed.
 fn judge_single(s: &[i64], h: Header, w: Words, k: usize) -> Judgement
     requires { ⌜ Begun (now s) h × (rowOf k .children w ≡ []) ⌝ }
     ensures { λ r. ⌜ r ≡ judged (rowOf k) (leafGiven (now (s .entry)) h w) ⌝ }
 {
-    let x = span(0, 0, 0);
-    let y = span(0, 0, 0);
-    let fact = fact_of(s, h, k, num(w.w1));
-    judge_leaf(
-        k,
-        Given {
-            words: w,
-            facts: h.facts,
-            rules: h.rules,
-            fact,
-            x,
-            y,
-        },
-    )
+    let f = num(w.w1);
+    match k {
+        3 => judge_leaf(3, leaf_given(h, w, named_fact(s, h.facts, f))),
+        16 => judge_leaf(16, leaf_given(h, w, named_fact(s, h.facts, f))),
+        17 => judge_leaf(17, leaf_given(h, w, named_fact(s, h.facts, f))),
+        _ => judge_leaf(k, leaf_given(h, w, no_fact())),
+    }
+}
+
+// The list that a node of kind number k with children names; it is looked up where the kind names one.
+fn list_of(s: &[i64], h: Header, k: usize, f: usize) -> Named
+    requires { ⌜ Begun (now s) h ⌝ }
+    ensures { λ x. ⌜ (14 ≤ k → x ≡ namedFact (now (s .entry)) (h .facts) f) ⌝ }
+{
+    if k < 14 {
+        no_fact()
+    } else {
+        named_fact(s, h.facts, f)
+    }
 }
 
 // Judges a node of kind number k whose children are in the arrays.
@@ -104,7 +124,7 @@ fn judge_joint(
 {
     let x = kid_item(lows, highs, sorts, 0 < c.count, c.first);
     let y = kid_item(lows, highs, sorts, 1 < c.count, c.second);
-    let fact = span(0, 0, 0);
+    let fact = list_of(s, h, k, num(w.w1));
     judge_parent(
         k,
         Given {
@@ -136,11 +156,23 @@ fn own_top(k: usize, rule: usize) -> usize
     }
 }
 
-fn kid_top(tops: &[u8], on: bool, j: usize) -> usize
-    requires { ⌜ (length (now tops) ≡ 1024) × (on ≡ true → j < 1024) ⌝ }
-    ensures { λ t. ⌜ t ≡ cond on (getD (now (tops .entry)) j 0) 0 ⌝ }
+// One more than the list whose element a node of kind number k cites, 0 where it cites none.
+fn own_scope(k: usize, list: usize) -> usize
+    requires { ⌜ (k ≡ 17 → list < 128) ⌝ }
+    ensures { λ c. ⌜ c ≡ ownScope k list ⌝ }
 {
-    if on { tops[j] as usize } else { 0 }
+    match k {
+        0..=16 => 0,
+        17 => list + 1,
+        18.. => 0,
+    }
+}
+
+fn kid_byte(t: &[u8], on: bool, j: usize) -> usize
+    requires { ⌜ (length (now t) ≡ 1024) × (on ≡ true → j < 1024) ⌝ }
+    ensures { λ r. ⌜ r ≡ kidByte (now (t .entry)) on j ⌝ }
+{
+    if on { t[j] as usize } else { 0 }
 }
 
 // The greatest rule of the trees of a node's children, as `own_top` has it.
@@ -148,9 +180,62 @@ fn top_of(tops: &[u8], c: Kids) -> usize
     requires { ⌜ (length (now tops) ≡ 1024) × Inside c 1024 ⌝ }
     ensures { λ t. ⌜ t ≡ greatest (λ j. getD (now (tops .entry)) j 0) (kids c) ⌝ }
 {
-    let x = kid_top(tops, 0 < c.count, c.first);
-    let y = kid_top(tops, 1 < c.count, c.second);
+    let x = kid_byte(tops, 0 < c.count, c.first);
+    let y = kid_byte(tops, 1 < c.count, c.second);
     greater(x, y)
+}
+
+// Whether a tree cites no elements outside.
+pub fn is_shut(scope: usize) -> bool
+    ensures { λ b. ⌜ b ≡ shut scope ⌝ }
+{
+    (scope == 0) | (scope == QUANTIFIER)
+}
+
+// The number of two trees together.
+fn join_scopes(a: usize, b: usize) -> usize
+    ensures { λ r. ⌜ r ≡ joint a b ⌝ }
+{
+    if a == 0 {
+        return b;
+    }
+    if (b == 0) | (a == b) {
+        return a;
+    }
+    if (a < QUANTIFIER) & (b < QUANTIFIER) {
+        SEVERAL
+    } else {
+        OUTSIDE
+    }
+}
+
+// The number of a quantifier over a list, from its body's.
+fn bind_scope(list: usize, body: usize) -> usize
+    requires { ⌜ list < 128 ⌝ }
+    ensures { λ r. ⌜ r ≡ over list body ⌝ }
+{
+    if QUANTIFIER <= body {
+        return NESTED;
+    }
+    if (body == 0) | (body == list + 1) {
+        QUANTIFIER
+    } else {
+        OUTSIDE
+    }
+}
+
+// The number of a node of kind number k, with `list` in word 1, from its children's.
+fn scope_of(scopes: &[u8], k: usize, list: usize, c: Kids) -> usize
+    requires { ⌜ (length (now scopes) ≡ 1024) × Inside c 1024 × ((eqb k 14 || eqb k 15) ≡ true → list < 128) ⌝ }
+    ensures { λ r. ⌜ r ≡ kidScope k list (now (scopes .entry)) c ⌝ }
+{
+    let x = kid_byte(scopes, 0 < c.count, c.first);
+    let y = kid_byte(scopes, 1 < c.count, c.second);
+    if (k == 14) | (k == 15) {
+        bind_scope(list, x)
+    } else {
+        join_scopes(x, y)
+    }
 }
 
 fn keep_item(lows: &mut [i32], highs: &mut [i32], sorts: &mut [u16], n: usize, x: Item)
@@ -165,11 +250,11 @@ fn keep_item(lows: &mut [i32], highs: &mut [i32], sorts: &mut [u16], n: usize, x
     sorts[n] = sort as u16;
 }
 
-fn keep_top(tops: &mut [u8], n: usize, top: usize)
-    requires { ⌜ (n < length (now tops)) × (top < 256) ⌝ }
-    ensures { λ _. ⌜ now (tops .exit) ≡ set (now (tops .entry)) n top ⌝ }
+fn keep_byte(t: &mut [u8], n: usize, v: usize)
+    requires { ⌜ (n < length (now t)) × (v < 256) ⌝ }
+    ensures { λ _. ⌜ now (t .exit) ≡ set (now (t .entry)) n v ⌝ }
 {
-    tops[n] = top as u8;
+    t[n] = v as u8;
 }
 
 // Marks the children of a node as named.
@@ -191,18 +276,22 @@ fn take_leaf(
     highs: &mut [i32],
     sorts: &mut [u16],
     tops: &mut [u8],
+    scopes: &mut [u8],
 ) -> bool
-    requires { ⌜ LeafAt (now s) h n w k (now lows) (now highs) (now sorts) (now tops) ⌝ }
-    ensures { λ b. ⌜ TookLeaf (now (s .entry)) h n w k b (now (lows .entry)) (now (highs .entry)) (now (sorts .entry)) (now (tops .entry)) (now (lows .exit)) (now (highs .exit)) (now (sorts .exit)) (now (tops .exit)) ⌝ }
+    requires { ⌜ LeafAt (now s) h n w k (now lows) (now highs) (now sorts) (now tops) (now scopes) ⌝ }
+    ensures { λ b. ⌜ TookLeaf (now (s .entry)) h n w k b (now (lows .entry)) (now (highs .entry)) (now (sorts .entry)) (now (tops .entry)) (now (scopes .entry)) (now (lows .exit)) (now (highs .exit)) (now (sorts .exit)) (now (tops .exit)) (now (scopes .exit)) ⌝ }
 {
     let found = judge_single(s, h, w, k);
     if !found.good {
         return false;
     }
     let x = found.item;
-    let top = own_top(k, num(w.w1));
+    let f = num(w.w1);
+    let top = own_top(k, f);
+    let scope = own_scope(k, f);
     keep_item(lows, highs, sorts, n, x);
-    keep_top(tops, n, top);
+    keep_byte(tops, n, top);
+    keep_byte(scopes, n, scope);
     true
 }
 
@@ -218,11 +307,12 @@ fn take_parent(
     highs: &mut [i32],
     sorts: &mut [u16],
     tops: &mut [u8],
+    scopes: &mut [u8],
     named: &mut [bool],
 ) -> bool
-    requires { ⌜ Turn (now s) h n (now lows) (now highs) (now sorts) (now tops) (now named) × Placed (now s) h n w k c ⌝ }
+    requires { ⌜ Turn (now s) h n (now lows) (now highs) (now sorts) (now tops) (now scopes) (now named) × Placed (now s) h n w k c ⌝ }
     requires { ⌜ (c .count ≡ 0 → ⊥) ⌝ }
-    ensures { λ b. ⌜ Took (now (s .entry)) h n b (now (lows .exit)) (now (highs .exit)) (now (sorts .exit)) (now (tops .exit)) (now (named .exit)) ⌝ }
+    ensures { λ b. ⌜ Took (now (s .entry)) h n b (now (lows .exit)) (now (highs .exit)) (now (sorts .exit)) (now (tops .exit)) (now (scopes .exit)) (now (named .exit)) ⌝ }
 {
     if !linked(named, n, c) {
         return false;
@@ -231,10 +321,15 @@ fn take_parent(
     if !found.good {
         return false;
     }
+    let scope = scope_of(scopes, k, num(w.w1), c);
+    if scope == NESTED {
+        return false;
+    }
     let x = found.item;
     let top = top_of(tops, c);
     keep_item(lows, highs, sorts, n, x);
-    keep_top(tops, n, top);
+    keep_byte(tops, n, top);
+    keep_byte(scopes, n, scope);
     name_children(named, c);
     true
 }
@@ -248,18 +343,19 @@ fn take_node(
     highs: &mut [i32],
     sorts: &mut [u16],
     tops: &mut [u8],
+    scopes: &mut [u8],
     named: &mut [bool],
 ) -> bool
-    requires { ⌜ Turn (now s) h n (now lows) (now highs) (now sorts) (now tops) (now named) ⌝ }
-    ensures { λ b. ⌜ Took (now (s .entry)) h n b (now (lows .exit)) (now (highs .exit)) (now (sorts .exit)) (now (tops .exit)) (now (named .exit)) ⌝ }
+    requires { ⌜ Turn (now s) h n (now lows) (now highs) (now sorts) (now tops) (now scopes) (now named) ⌝ }
+    ensures { λ b. ⌜ Took (now (s .entry)) h n b (now (lows .exit)) (now (highs .exit)) (now (sorts .exit)) (now (tops .exit)) (now (scopes .exit)) (now (named .exit)) ⌝ }
 {
     let w = words_at(s, h.facts + n);
     let k = num(w.w0);
     let c = children(k, w);
     if c.count == 0 {
-        return take_leaf(s, h, n, w, k, lows, highs, sorts, tops);
+        return take_leaf(s, h, n, w, k, lows, highs, sorts, tops, scopes);
     }
-    take_parent(s, h, n, w, k, c, lows, highs, sorts, tops, named)
+    take_parent(s, h, n, w, k, c, lows, highs, sorts, tops, scopes, named)
 }
 
 pub fn check_nodes(
@@ -269,16 +365,17 @@ pub fn check_nodes(
     highs: &mut [i32],
     sorts: &mut [u16],
     tops: &mut [u8],
+    scopes: &mut [u8],
     named: &mut [bool],
 ) -> usize
-    requires { ⌜ Begun (now s) h × Empty (now lows) (now highs) (now sorts) (now tops) (now named) ⌝ }
+    requires { ⌜ Begun (now s) h × Empty (now lows) (now highs) (now sorts) (now tops) (now scopes) (now named) ⌝ }
     ensures { λ n. ⌜ n ≡ firstFail (goodNode (now (s .entry)) h) 0 (h .nodes) ⌝ }
-    ensures { λ n. ⌜ (h .nodes ≤ n → Filled (now (s .entry)) h (h .nodes) (now (lows .exit)) (now (highs .exit)) (now (sorts .exit)) (now (tops .exit)) (now (named .exit))) ⌝ }
+    ensures { λ n. ⌜ (h .nodes ≤ n → Filled (now (s .entry)) h (h .nodes) (now (lows .exit)) (now (highs .exit)) (now (sorts .exit)) (now (tops .exit)) (now (scopes .exit)) (now (named .exit))) ⌝ }
 {
     let size = h.nodes;
     let mut n = 0;
     while n < size {
-        if !take_node(s, h, n, lows, highs, sorts, tops, named) {
+        if !take_node(s, h, n, lows, highs, sorts, tops, scopes, named) {
             return n;
         }
         n += 1;

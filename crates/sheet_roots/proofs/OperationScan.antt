@@ -54,7 +54,7 @@ count-of : (s : List ℤ) (h : Header) (k : ℕ) → operation s h k .w3 ≡ eff
 unfolding recordAt
 count-of s h k = refl
 
-module _ (s : List ℤ) (h : Header) (k sum : ℕ) (types : List ℕ) {named : List Bool} {room : ℕ} (typed : Typed s h types)
+module _ (s : List ℤ) (h : Header) (k sum : ℕ) {types scopes : List ℕ} {named : List Bool} {room : ℕ} (typed : Typed s h types scopes)
     (w : Turn s h room k sum named) (l : k < h .operations)
     {base : ℕ} {r : Record} (eb : base ≡ firstOperation h) (er : r ≡ recordAt s (base + k)) where
   is : r ≡ operation s h k
@@ -71,10 +71,10 @@ module _ (s : List ℤ) (h : Header) (k sum : ℕ) (types : List ℕ) {named : L
         covers-effects s h g,
       )
 
-  module _ {rooted m u : Bool} (eo : rooted ≡ rootTest h (r .w1) types named) (em : m ≡ goodMask h (r .w0)) (eu : u ≡ unused 5 r) where
+  module _ {rooted m u : Bool} (eo : rooted ≡ rootTest h (r .w1) types scopes named) (em : m ≡ goodMask h (r .w0)) (eu : u ≡ unused 5 r) where
     test : (m && rooted && eqb (r .w2) sum && leb 1 (r .w3) && leb 1 (r .w4) && leb (r .w4) 8 && u) ≡ goodOperation s h k
     unfolding goodOperation
-    test = rw (em, eo ∙ root-is s h (r .w1) types typed (w .names), eu, is, w .is)
+    test = rw (em, eo ∙ root-is s h (r .w1) types scopes typed (w .names), eu, is, w .is)
 
     pub again : {v : List Bool} → (m && rooted && eqb (r .w2) sum && leb 1 (r .w3) && leb 1 (r .w4) && leb (r .w4) 8 && u) ≡ true
         → v ≡ marked true (r .w1) named → Turn s h room (k + 1) (sum + r .w3) v

@@ -14,18 +14,20 @@ use Rattle.tables.specs.Inner.{marked}
 use Rattle.tables.proofs.Entries.{marked-flags, length-marked}
 use Rattle.layout.specs.declared.Header.{Header}
 use Rattle.records.specs.Nodes.{itemOf}
-use Rattle.records.specs.Names.{goodRoot}
+use Rattle.records.specs.Names.{closed, goodRoot}
+use Rattle.sheet_nodes.specs.Scopes.{shut}
 use Rattle.sheet_roots.specs.Roots.{Typed, Names, rootTest}
 
 -- the test from the arrays is the definition's
-pub root-is : (s : List ℤ) (h : Header) (a : ℕ) (types : List ℕ) {f : ℕ → Bool} {named : List Bool} {m : ℕ} → Typed s h types → Names h m f named
-    → rootTest h a types named ≡ goodRoot s h a (f a)
+pub root-is : (s : List ℤ) (h : Header) (a : ℕ) (types scopes : List ℕ) {f : ℕ → Bool} {named : List Bool} {m : ℕ} → Typed s h types scopes
+    → Names h m f named → rootTest h a types scopes named ≡ goodRoot s h a (f a)
 unfolding goodRoot
-root-is s h a types {f} {named} t n = go (decLt a (h .nodes))
+root-is s h a types scopes {f} {named} t n = go (decLt a (h .nodes))
   where
     go : Dec (a < h .nodes)
-        → (ltb a (h .nodes) && eqb (getD types a 0) 0 && not (getD named a false)) ≡ (ltb a (h .nodes) && eqb (itemOf s h a .sort) 0 && not (f a))
-    go (yes l) = rw (t a l, n .is a (omega (arith, n .room)))
+        → (ltb a (h .nodes) && eqb (getD types a 0) 0 && shut (getD scopes a 0) && not (getD named a false))
+        ≡ (ltb a (h .nodes) && eqb (itemOf s h a .sort) 0 && closed s h a && not (f a))
+    go (yes l) = rw (t .sort a l, t .shut a l, n .is a (omega (arith, n .room)))
     go (no x) = rw (le-ltb a (h .nodes) (omega arith))
 
 -- one more named node

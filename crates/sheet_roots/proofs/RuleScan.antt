@@ -10,7 +10,7 @@ use lib.ListN.{getD}
 use native.Mathlib.Omega.{arith}
 use Rattle.tables.specs.Scan.{anyBelow, firstFail}
 use Rattle.tables.specs.Inner.{marked}
-use Rattle.tables.proofs.Bools.{tests, and-no, or-assoc}
+use Rattle.tables.proofs.Bools.{and-no, or-assoc}
 use Rattle.tables.proofs.Scans.{any-more, any-zero, extend-one}
 use Rattle.tables.proofs.Scanned.{fail-at, fail-none}
 use Rattle.tables.proofs.Entries.{or-false}
@@ -21,6 +21,7 @@ use Rattle.layout.specs.Header.{firstRule}
 use Rattle.layout.specs.Tables.{rule}
 use Rattle.records.specs.Names.{namedByRules, goodRoot}
 use Rattle.records.specs.Rules.{stratum, citesLower, goodRule}
+use Rattle.records.proofs.RuleLaws.{root-ok}
 use Rattle.sheet_roots.specs.Roots.{Known, Names, NamedByNodes, rootTest, topLower}
 use Rattle.sheet_roots.proofs.Roots.{root-is, name-more, renamed}
 use Rattle.sheet_roots.proofs.Cites.{cites-is, rising}
@@ -50,20 +51,20 @@ chain : (a b c d e e′ : Bool) → (c ≡ true → e ≡ e′) → (a && b && c
 chain a b true d e e′ f = rw (f refl)
 chain a b false d e e′ f = rw (and-no (a && b))
 
-module _ (s : List ℤ) (h : Header) (k : ℕ) {types tops : List ℕ} {named : List Bool} {room : ℕ} (known : Known s h types tops)
+module _ (s : List ℤ) (h : Header) (k : ℕ) {types scopes tops : List ℕ} {named : List Bool} {room : ℕ}
+    (known : Known s h types scopes tops)
     (w : Turn s h room k named) (l : k < h .rules)
     {base : ℕ} {r : Record} {rooted risen u cites : Bool} {top : ℕ}
-    (eb : base ≡ firstRule h) (er : r ≡ recordAt s (base + k)) (eo : rooted ≡ rootTest h (r .w1) types named) (et : top ≡ getD tops (r .w1) 0)
+    (eb : base ≡ firstRule h) (er : r ≡ recordAt s (base + k)) (eo : rooted ≡ rootTest h (r .w1) types scopes named) (et : top ≡ getD tops (r .w1) 0)
     (ec : cites ≡ topLower s h k (r .w0) top) (ei : risen ≡ (eqb k 0 || leb (stratum s h (k - 1)) (r .w0))) (eu : u ≡ unused 2 r) where
   is : r ≡ rule s h k
   is = er ∙ rw eb
 
   root-of : rooted ≡ goodRoot s h (rule s h k .w1) (namedByRules s h k (rule s h k .w1))
-  root-of = eo ∙ root-is s h (r .w1) types (known .type) (w .names) ∙ rw is
+  root-of = eo ∙ root-is s h (r .w1) types scopes (known .type) (w .names) ∙ rw is
 
   inside : goodRoot s h (rule s h k .w1) (namedByRules s h k (rule s h k .w1)) ≡ true → rule s h k .w1 < h .nodes
-  unfolding goodRoot
-  inside p = let q = simp tests at p in q .0 .0
+  inside p = root-ok s h (rule s h k .w1) (namedByRules s h k (rule s h k .w1)) p .exists
 
   cites-of : goodRoot s h (rule s h k .w1) (namedByRules s h k (rule s h k .w1)) ≡ true → cites ≡ citesLower s h k (rule s h k .w1)
   cites-of p =

@@ -57,7 +57,7 @@ count-of : (s : List ℤ) (h : Header) (k : ℕ) → step s h k .w4 ≡ routeCou
 unfolding recordAt
 count-of s h k = refl
 
-module _ (s : List ℤ) (h : Header) (k sum : ℕ) (types : List ℕ) {named : List Bool} {room : ℕ} (typed : Typed s h types)
+module _ (s : List ℤ) (h : Header) (k sum : ℕ) {types scopes : List ℕ} {named : List Bool} {room : ℕ} (typed : Typed s h types scopes)
     (w : Turn s h room k sum named) (l : k < h .steps)
     {base : ℕ} {r : Record} (eb : base ≡ firstStep h) (er : r ≡ recordAt s (base + k)) where
   is : r ≡ step s h k
@@ -74,10 +74,10 @@ module _ (s : List ℤ) (h : Header) (k sum : ℕ) (types : List ℕ) {named : L
         covers-routes s h g,
       )
 
-  module _ {rooted m u : Bool} (eo : rooted ≡ rootTest h (r .w1) types named) (em : m ≡ kindTest s h r rooted) (eu : u ≡ unused 5 r) where
+  module _ {rooted m u : Bool} (eo : rooted ≡ rootTest h (r .w1) types scopes named) (em : m ≡ kindTest s h r rooted) (eu : u ≡ unused 5 r) where
     test : (m && eqb (r .w3) sum && u) ≡ goodStep s h k
     unfolding goodStep goodBranchStep
-    test = rw (em, eo ∙ root-is s h (r .w1) types typed (w .names), eu, is, w .is)
+    test = rw (em, eo ∙ root-is s h (r .w1) types scopes typed (w .names), eu, is, w .is)
 
     pub again : {v : List Bool} → (m && eqb (r .w3) sum && u) ≡ true → v ≡ marked (eqb (r .w0) 1) (r .w1) named
         → Turn s h room (k + 1) (sum + r .w4) v

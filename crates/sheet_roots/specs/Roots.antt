@@ -11,17 +11,20 @@ use Rattle.words.specs.declared.Record.{Record}
 use Rattle.layout.specs.declared.Header.{Header}
 use Rattle.layout.specs.Tables.{kindOf, personaNamed, routeCountOf}
 use Rattle.records.specs.Nodes.{itemOf, namedByNodes}
+use Rattle.records.specs.Names.{closed}
 use Rattle.records.specs.Rules.{stratum}
 use Rattle.records.specs.Flows.{goodOperationStep}
+use Rattle.sheet_nodes.specs.Scopes.{shut}
 use Rattle.sheet_nodes.specs.Arrays.{topOf}
 
--- the types of the nodes
-abbrev pub Typed : List ℤ → Header → List ℕ → Type 0
-Typed s h types = (j : ℕ) → j < h .nodes → getD types j 0 ≡ itemOf s h j .sort
+-- the types of the nodes, and which trees cite no element outside a quantifier over its list
+pub record Typed (s : List ℤ) (h : Header) (types scopes : List ℕ) : Type 0 where
+  pub sort : (j : ℕ) → j < h .nodes → getD types j 0 ≡ itemOf s h j .sort
+  pub shut : (j : ℕ) → j < h .nodes → shut (getD scopes j 0) ≡ closed s h j
 
 -- and the greatest rules that their trees cite
-pub record Known (s : List ℤ) (h : Header) (types tops : List ℕ) : Type 0 where
-  pub type : Typed s h types
+pub record Known (s : List ℤ) (h : Header) (types scopes tops : List ℕ) : Type 0 where
+  pub type : Typed s h types scopes
   pub top : (j : ℕ) → j < h .nodes → getD tops j 0 ≡ topOf s h j
 
 -- the flags, m of them and enough for the nodes, say which nodes are named
@@ -34,8 +37,8 @@ abbrev pub NamedByNodes : List ℤ → Header → ℕ → Bool
 NamedByNodes s h a = namedByNodes s h (h .nodes) a
 
 -- the test of a root from the arrays
-abbrev pub rootTest : Header → ℕ → List ℕ → List Bool → Bool
-rootTest h a types named = ltb a (h .nodes) && eqb (getD types a 0) 0 && not (getD named a false)
+abbrev pub rootTest : Header → ℕ → List ℕ → List ℕ → List Bool → Bool
+rootTest h a types scopes named = ltb a (h .nodes) && eqb (getD types a 0) 0 && shut (getD scopes a 0) && not (getD named a false)
 
 -- a tree whose greatest cited rule is top − 1 cites only rules below k, and of a stratum lower than `own`
 unfoldable pub topLower : List ℤ → Header → ℕ → ℕ → ℕ → Bool

@@ -16,8 +16,14 @@ use tables::mark;
 use words::record_at;
 use words::unused;
 
-pub fn check_operations(s: &[i64], h: Header, sorts: &[u16], named: &mut [bool]) -> usize
-    requires { ⌜ Sized (now s) h × (goodGroups (now s) h ≡ true) × Typed (now s) h (now sorts) × Names h (length (now named)) (namedByRules (now s) h (h .rules)) (now named) ⌝ }
+pub fn check_operations(
+    s: &[i64],
+    h: Header,
+    sorts: &[u16],
+    scopes: &[u8],
+    named: &mut [bool],
+) -> usize
+    requires { ⌜ Sized (now s) h × (goodGroups (now s) h ≡ true) × Typed (now s) h (now sorts) (now scopes) × Names h (length (now named)) (namedByRules (now s) h (h .rules)) (now named) ⌝ }
     ensures { λ k. ⌜ k ≡ firstFail (goodOperation (now (s .entry)) h) 0 (h .operations) ⌝ }
     ensures { λ k. ⌜ (h .operations ≤ k → Names h (length (now (named .entry))) (namedByOperations (now (s .entry)) h (h .operations)) (now (named .exit))) ⌝ }
 {
@@ -26,7 +32,7 @@ pub fn check_operations(s: &[i64], h: Header, sorts: &[u16], named: &mut [bool])
     let mut k = 0;
     while k < n {
         let r = record_at(s, h.first_operation() + k);
-        let rooted = root(h, sorts, named, r.w1);
+        let rooted = root(h, sorts, scopes, named, r.w1);
         if good_mask(h, r.w0)
             & rooted
             & (r.w2 == sum)

@@ -45,8 +45,15 @@ fn risen(s: &[i64], h: Header, k: usize, own: usize) -> bool
     }
 }
 
-pub fn check_rules(s: &[i64], h: Header, sorts: &[u16], tops: &[u8], named: &mut [bool]) -> usize
-    requires { ⌜ Sized (now s) h × Known (now s) h (now sorts) (now tops) × Names h (length (now named)) (NamedByNodes (now s) h) (now named) ⌝ }
+pub fn check_rules(
+    s: &[i64],
+    h: Header,
+    sorts: &[u16],
+    scopes: &[u8],
+    tops: &[u8],
+    named: &mut [bool],
+) -> usize
+    requires { ⌜ Sized (now s) h × Known (now s) h (now sorts) (now scopes) (now tops) × Names h (length (now named)) (NamedByNodes (now s) h) (now named) ⌝ }
     ensures { λ k. ⌜ k ≡ firstFail (goodRule (now (s .entry)) h) 0 (h .rules) ⌝ }
     ensures { λ k. ⌜ (h .rules ≤ k → Names h (length (now (named .entry))) (namedByRules (now (s .entry)) h (h .rules)) (now (named .exit))) ⌝ }
 {
@@ -54,7 +61,7 @@ pub fn check_rules(s: &[i64], h: Header, sorts: &[u16], tops: &[u8], named: &mut
     let mut k = 0;
     while k < n {
         let r = record_at(s, h.first_rule() + k);
-        let rooted = root(h, sorts, named, r.w1);
+        let rooted = root(h, sorts, scopes, named, r.w1);
         let cites = cites_lower(s, h, k, r.w0, byte_entry(tops, r.w1));
         if (r.w0 <= 15) & risen(s, h, k, r.w0) & rooted & unused(2, r) & cites {
             mark(named, true, r.w1);

@@ -31,8 +31,8 @@ fn good_kind(s: &[i64], h: Header, r: Record, rooted: bool) -> bool
     }
 }
 
-pub fn check_steps(s: &[i64], h: Header, sorts: &[u16], named: &mut [bool]) -> usize
-    requires { ⌜ Sized (now s) h × (goodGroups (now s) h ≡ true) × Typed (now s) h (now sorts) × ((k : ℕ) → k < h .operations → goodOperation (now s) h k ≡ true) × Names h (length (now named)) (namedByOperations (now s) h (h .operations)) (now named) ⌝ }
+pub fn check_steps(s: &[i64], h: Header, sorts: &[u16], scopes: &[u8], named: &mut [bool]) -> usize
+    requires { ⌜ Sized (now s) h × (goodGroups (now s) h ≡ true) × Typed (now s) h (now sorts) (now scopes) × ((k : ℕ) → k < h .operations → goodOperation (now s) h k ≡ true) × Names h (length (now named)) (namedByOperations (now s) h (h .operations)) (now named) ⌝ }
     ensures { λ k. ⌜ k ≡ firstFail (goodStep (now (s .entry)) h) 0 (h .steps) ⌝ }
 {
     let n = h.steps;
@@ -40,7 +40,7 @@ pub fn check_steps(s: &[i64], h: Header, sorts: &[u16], named: &mut [bool]) -> u
     let mut k = 0;
     while k < n {
         let r = record_at(s, h.first_step() + k);
-        let rooted = root(h, sorts, named, r.w1);
+        let rooted = root(h, sorts, scopes, named, r.w1);
         if good_kind(s, h, r, rooted) & (r.w3 == sum) & unused(5, r) {
             mark(named, r.w0 == 1, r.w1);
             sum += r.w4;

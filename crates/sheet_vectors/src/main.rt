@@ -42,7 +42,7 @@ fn length(base: usize, given: i64) -> usize {
 
 // The case at a place of the tape: base, length, number of changes, changes.
 fn run(tape: &[i64], at: usize, changes: usize, case: usize)
-    requires { ⌜ (at < 8192) × (changes ≤ 16) ⌝ }
+    requires { ⌜ (at < 16384) × (changes ≤ 16) ⌝ }
 {
     let mut words = [0i64; 30232];
     let base = num(word_entry(tape, at));
@@ -53,7 +53,7 @@ fn run(tape: &[i64], at: usize, changes: usize, case: usize)
 }
 
 fn changes(tape: &[i64], at: usize) -> usize
-    requires { ⌜ at < 8192 ⌝ }
+    requires { ⌜ at < 16384 ⌝ }
     ensures { λ n. ⌜ n ≤ 16 ⌝ }
 {
     let n = num(word_entry(tape, at + 2));
@@ -62,8 +62,8 @@ fn changes(tape: &[i64], at: usize) -> usize
 
 // The cases of the tape, up to its end; answers how many there are.
 fn run_all(tape: &[i64], end: usize) -> usize
-    requires { ⌜ end ≤ 8192 ⌝ }
-    ensures { λ n. ⌜ n ≤ 8192 ⌝ }
+    requires { ⌜ end ≤ 16384 ⌝ }
+    ensures { λ n. ⌜ n ≤ 16384 ⌝ }
 {
     let mut at = CASES;
     let mut case = 0;
@@ -86,7 +86,7 @@ fn run_changed(tape: &[i64], i: usize, v: i64, case: usize) {
 
 // Every word of the first sheet in turn, each made v.
 fn sweep(tape: &[i64], v: i64, first: usize)
-    requires { ⌜ first < 16384 ⌝ }
+    requires { ⌜ first < 32768 ⌝ }
 {
     let mut i = 0;
     while i < FIRST {
@@ -96,9 +96,9 @@ fn sweep(tape: &[i64], v: i64, first: usize)
 }
 
 fn main() {
-    let mut text = io::large_buffer();
+    let mut text = [0u8; 131072];
     let n = io::read_full(0, &mut text);
-    let mut tape = [0i64; 8192];
+    let mut tape = [0i64; 16384];
     let end = script::read(&text[..n], &mut tape);
     let cases = run_all(&tape, end);
     sweep(&tape, -1, cases);

@@ -14,7 +14,7 @@ pub const CASES: usize = 1320;
 
 // Words of the tape, from `from` on, to the start of the sheet.
 fn copy(tape: &[i64], from: usize, n: usize, out: &mut [i64])
-    requires { ⌜ from + n ≤ 8192 ⌝ }
+    requires { ⌜ from + n ≤ 16384 ⌝ }
 {
     let mut i = 0;
     while i < n {
@@ -62,7 +62,7 @@ fn place(record: i64, word: i64) -> usize {
 
 // The changes that stand at `first` on the tape: record, word, value.
 pub(crate) fn change(tape: &[i64], first: usize, n: usize, out: &mut [i64])
-    requires { ⌜ (first ≤ 8195) × (n ≤ 16) ⌝ }
+    requires { ⌜ (first ≤ 16387) × (n ≤ 16) ⌝ }
 {
     let mut at = first;
     let mut i = 0;

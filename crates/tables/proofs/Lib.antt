@@ -5,3 +5,4 @@ pub mod Grown
 pub mod Entries
 pub mod Lists
 pub mod Ints
+pub mod Elements

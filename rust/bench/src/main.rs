@@ -1,13 +1,14 @@
 //! `bench [MILLISECONDS]`: each call on the largest sheet, an eighth of it, the escrow example, and 01's sheet.
 //!
 //! At last runs that are hard where a precondition is worked out again for each step, operations that are refused 11
-//! after every effect was looked at, and S2 of sheets with 32 entities and 512 transitions.
+//! after every effect was looked at, S2 of sheets with 32 entities and 512 transitions, and verdicts of a rule that is for
+//! all elements of a list.
 //!
 //! The library and the reference are timed in turns in one process, the best of many rounds counts. Each case is
 //! timed for so many milliseconds (300 unless told). The answers are compared before.
 
 use difference::generate::{
-    self, Sheet, EFFECTS, ENTITIES, FACTS, FLOWS, NODES, OPERATIONS, PERSONAS, ROUTES, STEPS, TRANSITIONS,
+    self, Sheet, EFFECTS, ENTITIES, FACTS, FLOWS, LIST, NODES, OPERATIONS, PERSONAS, ROUTES, RULES, STEPS, TRANSITIONS,
 };
 use difference::random::Random;
 use fernpocket::{example, raw};
@@ -40,6 +41,8 @@ struct Desk {
     text: Vec<u8>,
     values: Vec<i64>,
     given: Vec<i64>,
+    lists: Vec<i64>,
+    lengths: Vec<i64>,
     rules: usize,
     states: Vec<i64>,
     persona: i64,
@@ -61,7 +64,7 @@ fn main() {
     let time = Duration::from_millis(milliseconds);
     let sheets = [(8, "Largest sheet"), (1, "An eighth")].map(|(eighths, name)| (name, Desk::random(eighths)));
     let examples = [("The escrow example", escrow()), ("01's sheet", example::sheet())];
-    let sheets = sheets.into_iter().chain(examples.map(|(name, words)| (name, Desk::of(&as_tables(&words), 1))));
+    let sheets = sheets.into_iter().chain(examples.map(|(name, words)| (name, Desk::of(&Sheet::read(&words), 1))));
 
     let mut table: Vec<Timed> = vec![];
     for (name, desk) in sheets {
@@ -146,6 +149,21 @@ fn main() {
         let alone = ((reach.library - states.library) / 1e3, (reach.reference - states.reference) / 1e3);
         println!("| {ratio:.2} | {:.2} | {:.2} |", alone.0, alone.1);
     }
+
+    println!("\n## For all: verdicts of one rule over the last list of a sheet, with a body of 10 nodes that is always true\n");
+    println!("| Lists | Elements | Node visits | Library, µs | Reference, µs | Ratio |");
+    println!("|---:|---:|---:|---:|---:|---:|");
+    for (lists, elements) in [(1, 0), (1, 1), (1, 10), (1, 100), (127, 0), (127, 100)] {
+        let words = for_all_sheet(lists).words();
+        // The other lists are empty. The last fact is a Bool, and false.
+        let (mut slots, mut lengths) = (vec![0; 100 * lists], vec![0; lists]);
+        (0..100).for_each(|place| slots[100 * (lists - 1) + place] = place as i64 % 10);
+        lengths[lists - 1] = elements;
+        let (values, given) = (vec![0; lists + 1], vec![1; lists + 1]);
+        let desk = Desk { words, values, given, lists: slots, lengths, rules: 1, ..Desk::default() };
+        let line = format!("{lists} | {elements} | {}", 1 + 10 * elements);
+        hard(Box::leak(Box::new(desk)), "verdicts", &line, time);
+    }
 }
 
 /// The times of one call of a desk.
@@ -205,6 +223,32 @@ fn reach_sheet(owners: i64, turns: bool) -> Sheet {
     sheet
 }
 
+/// So many lists of up to 100 Ints of 0..9, and a Bool. One rule: for all of the last list, the element is 0 or more, and 9
+/// or less, and the Bool is not true.
+fn for_all_sheet(lists: usize) -> Sheet {
+    let mut sheet = Sheet { personas: 0, tables: Default::default() };
+    let mut add = |kind: usize, words: &[i64]| add(&mut sheet, kind, words);
+    (0..lists).for_each(|_| add(FACTS, &[LIST, 0, 9, 0, 0, 0, 1, 100]));
+    add(FACTS, &[0, 0, 1]);
+    let (list, truth) = (lists as i64 - 1, lists as i64);
+    let body: [&[i64]; 10] = [
+        &[17, list],
+        &[0, 0],
+        &[7, 5, 0, 1],
+        &[17, list],
+        &[0, 9],
+        &[7, 3, 3, 4],
+        &[9, 2, 5],
+        &[3, truth],
+        &[11, 7],
+        &[9, 6, 8],
+    ];
+    body.into_iter().for_each(|node| add(NODES, node));
+    add(NODES, &[14, list, 9]);
+    add(RULES, &[0, 10]);
+    sheet
+}
+
 /// A flow of so many steps of one operation, whose precondition is a chain of so many nodes.
 fn hard_sheet(steps: i64, nodes: i64) -> Sheet {
     let mut sheet = Sheet { personas: 1, tables: Default::default() };
@@ -233,16 +277,6 @@ fn escrow() -> Vec<i64> {
     let count = reference::read_text(text, &mut words).value as usize;
     words.truncate(count);
     words
-}
-
-/// A sheet's words as tables.
-fn as_tables(words: &[i64]) -> Sheet {
-    let mut sheet = Sheet { personas: words[1] as usize, tables: Default::default() };
-    let mut records = words[16..].chunks_exact(8).map(|record| record.try_into().unwrap());
-    for kind in 1..11 {
-        sheet.tables[kind] = records.by_ref().take(words[1 + kind] as usize).collect();
-    }
-    sheet
 }
 
 /// The best time of each side.
@@ -298,21 +332,27 @@ impl Desk {
         let given = vec![1; sheet.count(FACTS)];
         let steps = (0..sheet.count(FLOWS)).map(|flow| sheet.steps_of(flow).1).max().unwrap_or(0);
 
-        let (mut values, mut run_flow, mut run_wanted, mut longest) = (vec![], 0, vec![], -1);
+        let (mut values, mut lists, mut lengths) = (vec![], vec![], vec![]);
+        let (mut run_flow, mut run_wanted, mut longest) = (0, vec![], -1);
         for _ in 0..400 {
             let tried: Vec<i64> = (0..given.len()).map(|fact| sheet.value_of(fact, &mut random)).collect();
+            let (slots, counts) = sheet.lent_lists(&mut random);
             let flow = random.below(sheet.count(FLOWS)) as i64;
             let wanted = wanted_of(sheet, flow as usize, &mut random);
-            let run = reference::run(&words, &tried, &given, &mut states.clone(), flow, &wanted, &mut vec![0; steps]);
+            let (mut states, mut path) = (states.clone(), vec![0; steps]);
+            let run = reference::run(&words, &tried, &given, &slots, &counts, &mut states, flow, &wanted, &mut path);
             if run.count > longest {
-                (values, run_flow, run_wanted, longest) = (tried, flow, wanted, run.count);
+                (values, lists, lengths) = (tried, slots, counts);
+                (run_flow, run_wanted, longest) = (flow, wanted, run.count);
             }
         }
         let (mut persona, mut operation, mut wanted) = (0, 0, -1);
         for _ in 0..2000 {
             let tried = (random.below(sheet.count(PERSONAS)) as i64, random.below(sheet.count(OPERATIONS)) as i64);
             let word = random.below(sheet.tables[OPERATIONS][tried.1 as usize][4] as usize) as i64;
-            let answer = reference::operate(&words, &values, &given, &mut states.clone(), tried.0, tried.1, word);
+            let mut states = states.clone();
+            let answer =
+                reference::operate(&words, &values, &given, &lists, &lengths, &mut states, tried.0, tried.1, word);
             if answer.refusal == 0 {
                 (persona, operation, wanted) = (tried.0, tried.1, word);
                 break;
@@ -323,7 +363,7 @@ impl Desk {
             |count: usize, size: &dyn Fn(i64) -> i64| (0..count as i64).max_by_key(|&number| size(number)).unwrap_or(0);
         Desk {
             text,
-            rules: sheet.count(generate::RULES),
+            rules: sheet.count(RULES),
             persona,
             operation,
             wanted,
@@ -335,10 +375,12 @@ impl Desk {
             long_flow: largest(sheet.count(FLOWS), &|flow| reference::depth(&words, flow).value),
             steps,
             node: largest(sheet.count(NODES), &|node| reference::tree_size(&words, node).value),
-            rule: sheet.count(generate::RULES) as i64 - 1,
+            rule: sheet.count(RULES) as i64 - 1,
             words,
             values,
             given,
+            lists,
+            lengths,
             states,
         }
     }
@@ -383,10 +425,10 @@ fn cases(desk: &'static Desk) -> Vec<Case> {
             side::write_text(&desk.words, &mut text)
         }),
         case!("assemble", 0, [values = desk.values.clone()], |side| {
-            side::assemble(&desk.words, &mut values, &desk.given)
+            side::assemble(&desk.words, &mut values, &desk.given, &desk.lists, &desk.lengths)
         }),
         case!("verdicts", 0, [out = vec![0i64; desk.rules]], |side| {
-            side::verdicts(&desk.words, &desk.values, &desk.given, &mut out)
+            side::verdicts(&desk.words, &desk.values, &desk.given, &desk.lists, &desk.lengths, &mut out)
         }),
         case!("operate", 0, [states = desk.states.clone()], |side| {
             states.copy_from_slice(&desk.states);
@@ -394,6 +436,8 @@ fn cases(desk: &'static Desk) -> Vec<Case> {
                 &desk.words,
                 &desk.values,
                 &desk.given,
+                &desk.lists,
+                &desk.lengths,
                 &mut states,
                 desk.persona,
                 desk.operation,
@@ -402,7 +446,17 @@ fn cases(desk: &'static Desk) -> Vec<Case> {
         }),
         case!("run", 0, [states = desk.states.clone(), path = vec![0u16; desk.steps]], |side| {
             states.copy_from_slice(&desk.states);
-            side::run(&desk.words, &desk.values, &desk.given, &mut states, desk.run_flow, &desk.run_wanted, &mut path)
+            side::run(
+                &desk.words,
+                &desk.values,
+                &desk.given,
+                &desk.lists,
+                &desk.lengths,
+                &mut states,
+                desk.run_flow,
+                &desk.run_wanted,
+                &mut path,
+            )
         }),
         case!("first", 0, [path = vec![0u16; desk.steps]], |side| {
             side::first(&desk.words, desk.long_flow, &mut path)

@@ -5,13 +5,23 @@
 //! figure is an upper bound.
 
 use difference::calls::Call;
-use difference::generate::{self, Sheet, ENTITIES, FACTS, FLOWS, NODES, OPERATIONS, ROUTES, RULES, STEPS, TRANSITIONS};
+use difference::generate::{
+    self, Sheet, ENTITIES, FACTS, FLOWS, LIST, NODES, OPERATIONS, ROUTES, RULES, STEPS, TRANSITIONS,
+};
 use difference::random::Random;
 use fernpocket::raw;
 use std::process::{Command, Stdio};
 use std::{env, thread};
 
-const SHEETS: [&str; 4] = ["largest", "not chain, rule", "not chain, operation", "product chain, rule"];
+const SHEETS: [&str; 7] = [
+    "largest",
+    "not chain, rule",
+    "not chain, operation",
+    "product chain, rule",
+    "for all over a not chain, rule",
+    "for all within a not chain, rule",
+    "for all within a not chain, operation",
+];
 const PAGE: usize = 4096;
 
 fn main() {
@@ -59,14 +69,21 @@ fn smallest(call: &str, sheet: &str) -> usize {
 fn attempt(call: &str, sheet: &str, bytes: usize) {
     let sheet = match sheet {
         "largest" => generate::full(8, &mut Random::new(1)),
-        "not chain, rule" => chain([11, 0], RULES),
-        "not chain, operation" => chain([11, 0], OPERATIONS),
-        _ => chain([6, 1], RULES),
+        "not chain, rule" => chain([11, 0], RULES, None),
+        "not chain, operation" => chain([11, 0], OPERATIONS, None),
+        "product chain, rule" => chain([6, 1], RULES, None),
+        "for all over a not chain, rule" => chain([11, 0], RULES, Some(1023)),
+        "for all within a not chain, rule" => chain([11, 0], RULES, Some(512)),
+        _ => chain([11, 0], OPERATIONS, Some(512)),
     };
     let words = sheet.words();
     let counts = [FACTS, RULES, ENTITIES].map(|kind| sheet.count(kind));
     let values: Vec<i64> = sheet.tables[FACTS].iter().map(|fact| fact[1]).collect();
     let (given, mut verdicts) = (vec![1; counts[0]], vec![0; counts[1]]);
+    // Full lists, each of its smallest element.
+    let lengths: Vec<i64> = sheet.lists().map(|list| sheet.tables[FACTS][list][7]).collect();
+    let lists: Vec<i64> =
+        sheet.lists().zip(&lengths).flat_map(|(list, &length)| vec![values[list]; length as usize]).collect();
     let mut states: Vec<i64> = sheet.tables[ENTITIES].iter().map(|entity| entity[1]).collect();
     let (mut assembled, mut path) = (values.clone(), [0; 256]);
     let (mut text, mut read) = (vec![0; 12 * words.len()], vec![0; words.len()]);
@@ -83,10 +100,10 @@ fn attempt(call: &str, sheet: &str, bytes: usize) {
         "check" => raw::check(&words),
         "read_text" => raw::read_text(&written, &mut read),
         "write_text" => raw::write_text(&words, &mut text),
-        "assemble" => raw::assemble(&words, &mut assembled, &given),
-        "verdicts" => raw::verdicts(&words, &values, &given, &mut verdicts),
-        "operate" => raw::operate(&words, &values, &given, &mut states, 0, 0, -1),
-        "run" => raw::run(&words, &values, &given, &mut states, 0, &wanted, &mut path),
+        "assemble" => raw::assemble(&words, &mut assembled, &given, &lists, &lengths),
+        "verdicts" => raw::verdicts(&words, &values, &given, &lists, &lengths, &mut verdicts),
+        "operate" => raw::operate(&words, &values, &given, &lists, &lengths, &mut states, 0, 0, -1),
+        "run" => raw::run(&words, &values, &given, &lists, &lengths, &mut states, 0, &wanted, &mut path),
         "first" => raw::first(&words, 0, &mut path),
         "next" => raw::next(&words, 0, &mut path),
         "states" => raw::states(&words, 0),
@@ -106,8 +123,9 @@ fn attempt(call: &str, sheet: &str, bytes: usize) {
     assert!([0, 5, 9, 10, 11, 13].contains(&answer.refusal), "{answer:?}");
 }
 
-/// 1,024 nodes, each the only child of the next, under the rule or the operation of the sheet.
-fn chain([kind, factor]: [i64; 2], owner: usize) -> Sheet {
+/// 1,024 nodes, each the only child of the next, under the rule or the operation of the sheet. Node `for_all` is a "for all"
+/// over the list, and the first node then the list's element.
+fn chain([kind, factor]: [i64; 2], owner: usize, for_all: Option<i64>) -> Sheet {
     let mut sheet = Sheet { personas: 1, tables: Default::default() };
     let mut add = |table: usize, words: &[i64]| {
         let mut record = [0; 8];
@@ -116,9 +134,13 @@ fn chain([kind, factor]: [i64; 2], owner: usize) -> Sheet {
     };
     // Of products the two last nodes are a literal and a comparison; the first of the others is a fact.
     add(FACTS, &[(kind == 6) as i64, 0, 1]);
-    add(NODES, &[3, 0]);
+    add(FACTS, &[LIST, 0, 1, 0, 0, 0, 0, 2]);
+    add(NODES, if for_all.is_some() { &[17, 1] } else { &[3, 0] });
     let links = if kind == 6 { 1022 } else { 1024 };
-    (1..links).for_each(|node| add(NODES, &[kind, node - 1, factor]));
+    (1..links).for_each(|node| match for_all {
+        Some(place) if place == node => add(NODES, &[14, 1, node - 1]),
+        _ => add(NODES, &[kind, node - 1, factor]),
+    });
     if kind == 6 {
         add(NODES, &[0, 1]);
         add(NODES, &[7, 3, 1021, 1022]);

@@ -1,15 +1,16 @@
 //! Damaged sheets and texts, and hostile numbers.
 
-use crate::generate::{edge, Record, Sheet, EFFECTS, FACTS, FLOWS, NODES, OPERATIONS, ROUTES, RULES, STEPS};
+use crate::generate::{edge, Record, Sheet, EFFECTS, FACTS, FLOWS, LIST, NODES, OPERATIONS, ROUTES, RULES, STEPS};
 use crate::random::Random;
 use reference::{HEADER, LIMITS, M, RECORD};
 
 /// Numbers at the ends of 01's ranges and of i64, or near an old one.
 pub fn hostile(random: &mut Random, old: i64) -> i64 {
     #[rustfmt::skip]
-    const ENDS: [i64; 42] = [
+    const ENDS: [i64; 46] = [
         i64::MIN, i64::MIN + 1, i64::MAX, i64::MAX - 1, -1, -1, 0, 0, 1, 2, 3, 4, 5, 6, 7, 8, 9, 11, 12, 13, 14, 15, 16,
-        17, 24, 25, 31, 32, 127, 128, 129, 255, 256, 512, 1023, 1024, 1025, 65536, M, M + 1, -M, -M - 1,
+        17, 18, 24, 25, 31, 32, 99, 100, 101, 127, 128, 129, 255, 256, 512, 1023, 1024, 1025, 65536, M, M + 1, -M,
+        -M - 1,
     ];
     match random.below(12) {
         0..=4 => random.pick(&ENDS),
@@ -26,7 +27,7 @@ pub fn hostile(random: &mut Random, old: i64) -> i64 {
 /// The words of a damaged sheet. It may still be an accepted one.
 pub fn sheet(sheet: &Sheet, random: &mut Random) -> Vec<i64> {
     let mut words = sheet.words();
-    match random.below(17) {
+    match random.below(19) {
         0..=5 => change_words(&mut words, random),
         6 => length(&mut words, random),
         7 => header(&mut words, random),
@@ -37,6 +38,7 @@ pub fn sheet(sheet: &Sheet, random: &mut Random) -> Vec<i64> {
         9 | 10 => return records(sheet, random).words(),
         11 => return counts(sheet, random).words(),
         12 => return durations(sheet, random).words(),
+        13 | 14 => return lists(sheet, random).words(),
         _ => return rules_broken(sheet, random).words(),
     }
     words
@@ -200,6 +202,70 @@ fn durations(sheet: &Sheet, random: &mut Random) -> Sheet {
     sheet
 }
 
+/// A list, a quantifier, a length or an element with another fact or of another kind; a quantifier put above or below
+/// another; a node that becomes an element, or no longer is one.
+fn lists(sheet: &Sheet, random: &mut Random) -> Sheet {
+    let mut sheet = sheet.clone();
+    let of_kind = |wanted: &[i64]| {
+        let nodes = sheet.tables[NODES].iter().enumerate();
+        nodes.filter(|(_, node)| wanted.contains(&node[0])).map(|(index, _)| index).collect::<Vec<_>>()
+    };
+    let lists: Vec<usize> = sheet.lists().collect();
+    let (over, leaves, nots) = (of_kind(&[14, 15]), of_kind(&[1, 3, 16, 17]), of_kind(&[11]));
+    let some = |from: &[usize], random: &mut Random| (!from.is_empty()).then(|| random.pick(from));
+    let Some(list) = some(&lists, random) else { return rules_broken(&sheet, random) };
+    let facts = sheet.tables[FACTS].len() as i64;
+    match random.below(8) {
+        // A quantifier over another list, or over a fact that is none.
+        0 => {
+            if let Some(node) = some(&over, random) {
+                let any = random.within(-1, facts);
+                sheet.tables[NODES][node][1] = random.pick(&[list as i64, any]);
+            }
+        }
+        1 => {
+            if let Some(node) = some(&over, random) {
+                sheet.tables[NODES][node][0] = random.within(13, 16);
+            }
+        }
+        // A quantifier in the place of a not: above another, or in a body.
+        2 | 3 => {
+            if let Some(node) = some(&nots, random) {
+                let body = sheet.tables[NODES][node][1];
+                sheet.tables[NODES][node] = [random.pick(&[14, 15]), list as i64, body, 0, 0, 0, 0, 0];
+            }
+        }
+        // A leaf becomes another: in a body or not, of this list's type or not.
+        4 | 5 => {
+            if let Some(node) = some(&leaves, random) {
+                sheet.tables[NODES][node] = [random.pick(&[3, 16, 17, 17, 17]), list as i64, 0, 0, 0, 0, 0, 0];
+            }
+        }
+        // A fact that becomes a list of its type, or of another, and a list that becomes a fact.
+        6 => {
+            let fact = random.below(facts as usize);
+            let [kind, .., element, _] = sheet.tables[FACTS][fact];
+            let words = &mut sheet.tables[FACTS][fact];
+            (words[3], words[4]) = (0, 0);
+            match kind {
+                LIST => (words[0], words[6], words[7]) = (element, 0, 0),
+                _ => (words[0], words[6], words[7]) = (LIST, kind, random.within(0, 5)),
+            }
+        }
+        _ => {
+            let words = &mut sheet.tables[FACTS][list];
+            match random.below(5) {
+                0 => words[3 + random.below(2)] = 1,
+                1 => words[6] = random.within(-1, 6),
+                2 => words[7] = random.pick(&[-1, 0, 1, 99, 100, 101, 127, 128]),
+                3 => words[5] = random.pick(&[-1, 0, 1, 2, 127, 128]),
+                _ => words[2] += random.pick(&[-1, 1]),
+            }
+        }
+    }
+    sheet
+}
+
 /// One rule of 01 or 02 broken, or nearly, in a record that is otherwise good.
 fn rules_broken(sheet: &Sheet, random: &mut Random) -> Sheet {
     let mut sheet = sheet.clone();
@@ -209,6 +275,7 @@ fn rules_broken(sheet: &Sheet, random: &mut Random) -> Sheet {
         return sheet;
     }
     let index = random.below(count);
+    let facts = sheet.tables[FACTS].len() as i64;
     let nodes = sheet.tables[NODES].len().max(1) as i64;
     let rules = sheet.tables[RULES].len().max(1) as i64;
     let steps = sheet.tables[STEPS].len().max(1) as i64;
@@ -217,7 +284,7 @@ fn rules_broken(sheet: &Sheet, random: &mut Random) -> Sheet {
     let words = &mut sheet.tables[kind][index];
     match kind {
         FACTS => match random.below(3) {
-            0 => words[0] = random.within(0, 5),
+            0 => words[0] = random.within(0, 6),
             1 => words[5] = random.pick(&[-1, 0, 1, 2, 3, 4, 127, 128]),
             _ => {
                 (words[1], words[2]) = (random.pick(&[0, -M, -M - 1, 1]), random.pick(&[0, M, M + 1, -1]));
@@ -225,7 +292,7 @@ fn rules_broken(sheet: &Sheet, random: &mut Random) -> Sheet {
             }
         },
         NODES => match (words[0], random.below(4)) {
-            (_, 0) => words[0] = random.within(0, 14),
+            (_, 0) => words[0] = random.within(0, 18),
             (8, _) => words[1] = random.within(0, rules - 1),
             (7, 1) => words[1] = random.within(0, 5),
             (7, 2) => words[2] = random.within(0, index as i64),
@@ -236,7 +303,9 @@ fn rules_broken(sheet: &Sheet, random: &mut Random) -> Sheet {
             (12, 1) => words[2] = random.pick(&[0, 127, 128, -1]),
             (13, 1) => words[2] = random.within(-1, 4),
             (13, 2) => words[1] = edge(random),
-            (0..=3 | 12 | 13, _) => words[1] = hostile(random, words[1]),
+            (14 | 15, 1) => words[2] = random.within(0, index as i64),
+            (14..=17, 2) => words[1] = random.within(-1, facts),
+            (0..=3 | 12..=17, _) => words[1] = hostile(random, words[1]),
             (_, 1) => words[2] = words[1],
             _ => words[1 + random.below(2)] = random.within(0, index as i64),
         },

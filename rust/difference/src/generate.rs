@@ -1,7 +1,7 @@
-//! Accepted sheets, built directly from 01's rules, of every size up to the largest.
+//! Accepted sheets, built directly from the rules of 01 and 02, of every size up to the largest.
 
 use crate::random::Random;
-use reference::{HEADER, LIMITS, M};
+use reference::{HEADER, LIMITS, M, RECORD};
 
 pub type Record = [i64; 8];
 
@@ -33,14 +33,16 @@ pub struct Wish {
     pub large_trees: bool,
     /// Of 10 Bool nodes with room for two children, how many are comparisons.
     pub comparisons: usize,
+    /// Of 10 facts, how many are lists; and of 10 Bool nodes with room for a body, how many are quantifiers.
+    pub lists: usize,
 }
 
 impl Wish {
-    /// The largest sheet, or so many eighths of it, with paths as long as can be.
+    /// The largest sheet, or so many eighths of it, with paths as long as can be, and without lists.
     pub fn eighths(eighths: usize) -> Self {
         let mut counts = LIMITS.map(|limit| limit as usize * eighths / 8);
         counts[PERSONAS] = LIMITS[PERSONAS] as usize;
-        Wish { counts, states: 16, onward: 10, one_long_flow: true, large_trees: true, comparisons: 4 }
+        Wish { counts, states: 16, onward: 10, one_long_flow: true, large_trees: true, comparisons: 4, lists: 0 }
     }
 
     /// A random size and shape.
@@ -82,6 +84,7 @@ impl Wish {
             one_long_flow: random.chance(1, 3),
             large_trees: random.chance(1, 2),
             comparisons: random.pick(&[2, 4, 8]),
+            lists: random.pick(&[0, 1, 3, 3, 6, 10]),
         }
     }
 }
@@ -94,7 +97,20 @@ pub struct Sheet {
     pub tables: [Vec<Record>; 11],
 }
 
+/// The type of a fact that is a list.
+pub const LIST: i64 = 5;
+
 impl Sheet {
+    /// The tables of words whose header and length are right.
+    pub fn read(words: &[i64]) -> Self {
+        let mut sheet = Sheet { personas: words[1 + PERSONAS] as usize, tables: Default::default() };
+        let mut records = words[HEADER..].chunks_exact(RECORD).map(|record| record.try_into().expect("a whole record"));
+        for kind in FACTS..=ROUTES {
+            sheet.tables[kind] = records.by_ref().take(words[1 + kind] as usize).collect();
+        }
+        sheet
+    }
+
     pub fn words(&self) -> Vec<i64> {
         let mut words = vec![1, self.personas as i64];
         words.extend(self.tables[1..].iter().map(|table| table.len() as i64));
@@ -116,7 +132,39 @@ impl Sheet {
         (record[0] as usize, record[1] as usize)
     }
 
-    /// A value of the fact that is in its range, ends more often.
+    /// The facts that are lists.
+    pub fn lists(&self) -> impl Iterator<Item = usize> + '_ {
+        (0..self.count(FACTS)).filter(|&fact| self.tables[FACTS][fact][0] == LIST)
+    }
+
+    /// Lists and lengths to be lent: elements in their range, as many as may be or fewer, and rubbish past them.
+    pub fn lent_lists(&self, random: &mut Random) -> (Vec<i64>, Vec<i64>) {
+        let (mut lists, mut lengths) = (vec![], vec![]);
+        for fact in self.lists() {
+            let largest = self.tables[FACTS][fact][7] as usize;
+            let length = match random.below(6) {
+                0 => 0,
+                1 => 1.min(largest),
+                2 | 3 => largest,
+                _ => random.below(largest + 1),
+            };
+            // Elements that are all the same, or all but one, decide a quantifier late.
+            let same = random.chance(1, 2).then(|| self.value_of(fact, random));
+            let other = random.below(largest + 1);
+            for place in 0..largest {
+                let rubbish = random.word() as i64;
+                lists.push(match same {
+                    _ if place >= length => random.pick(&[0, 1, i64::MIN, i64::MAX, rubbish]),
+                    Some(value) if place != other => value,
+                    _ => self.value_of(fact, random),
+                });
+            }
+            lengths.push(length as i64);
+        }
+        (lists, lengths)
+    }
+
+    /// A value of the fact, or an element of the list, that is in its range, ends more often.
     pub fn value_of(&self, fact: usize, random: &mut Random) -> i64 {
         let [_, min, max, ..] = self.tables[FACTS][fact];
         match random.below(5) {
@@ -159,6 +207,18 @@ fn facts(wish: &Wish, random: &mut Random, sheet: &mut Sheet) {
     let most_sets = random.pick(&[1, 2, 4, 128]);
     let max_of_set: Vec<i64> = (0..128).map(|_| random.pick(&[0, 1, 2, 3, 100, 255])).collect();
     for _ in 0..wish.counts[FACTS] {
+        if wish.lists > 0 && random.chance(wish.lists, 10) {
+            let set = random.below(most_sets);
+            let (a, b) = (number(random), number(random));
+            let (element, min, max, set) = match random.below(3) {
+                0 => (0, 0, 1, 0),
+                1 => (1, a.min(b), a.max(b), 0),
+                _ => (2, 0, max_of_set[set], set as i64),
+            };
+            let largest = random.pick(&[0, 1, 1, 2, 2, 3, 3, 4, 5, 8, 20, 99, 100]);
+            sheet.tables[FACTS].push(record(&[LIST, min, max, 0, 0, set, element, largest]));
+            continue;
+        }
         let (kind, min, max, set) = match random.below(6) {
             0 => (0, 0, 1, 0),
             1 | 2 => {
@@ -428,6 +488,12 @@ struct Trees<'a> {
     /// Rules below this number may be cited in the tree at hand.
     citable: usize,
     comparisons: usize,
+    /// Of 10 Bool nodes with room for a body, how many are quantifiers.
+    quantifiers: usize,
+    /// The list of the quantifier whose body is at hand.
+    body_of: Option<usize>,
+    /// The tree at hand is named by nothing: it may cite elements anywhere.
+    loose: bool,
     /// Trees are chains, by their left or their right children.
     chain: Option<bool>,
 }
@@ -449,6 +515,9 @@ impl<'a> Trees<'a> {
             twigs: vec![],
             citable: 0,
             comparisons: wish.comparisons,
+            quantifiers: if sheet.lists().next().is_some() { wish.lists } else { 0 },
+            body_of: None,
+            loose: false,
             chain,
         }
     }
@@ -481,8 +550,9 @@ impl<'a> Trees<'a> {
             };
             roots.push(self.tree(Sort::Bool, budget));
         }
-        // Trees that nothing names may cite every rule.
+        // Trees that nothing names may cite every rule, and elements outside of a quantifier.
         self.citable = rules;
+        self.loose = true;
         while self.twigs.len() < room {
             let budget = self.random.size(1, (room - self.twigs.len()).min(40));
             let sort = match self.random.below(6) {
@@ -547,7 +617,8 @@ impl<'a> Trees<'a> {
 
     /// A set of Enums or a currency, mostly one that some fact of the type has.
     fn some_set(&mut self, kind: i64) -> Option<i64> {
-        let sets: Vec<i64> = self.facts.iter().filter(|fact| fact[0] == kind).map(|fact| fact[5]).collect();
+        let of_kind = |fact: &&Record| fact[0] == kind || (fact[0] == LIST && fact[6] == kind);
+        let sets: Vec<i64> = self.facts.iter().filter(of_kind).map(|fact| fact[5]).collect();
         match self.random.below(4) {
             0 => Some(self.random.below(128) as i64),
             _ if sets.is_empty() => None,
@@ -604,7 +675,45 @@ impl<'a> Trees<'a> {
         Some(self.push(&[3, fact as i64], &[], min, max))
     }
 
+    /// An element of this type, where one may be cited; mostly it is.
+    fn element_of(&mut self, element: i64, set: i64) -> Option<usize> {
+        let at_hand = |fact: usize| self.body_of == Some(fact) || self.loose;
+        let wanted = |fact: &Record| fact[0] == LIST && fact[6] == element && fact[5] == set;
+        let lists: Vec<usize> =
+            (0..self.facts.len()).filter(|&fact| at_hand(fact) && wanted(&self.facts[fact])).collect();
+        if lists.is_empty() || self.random.chance(1, 3) {
+            return None;
+        }
+        let fact = self.random.pick(&lists);
+        let [_, min, max, ..] = self.facts[fact];
+        Some(self.push(&[17, fact as i64], &[], min, max))
+    }
+
+    /// A list's length, now and then.
+    fn length_of(&mut self) -> Option<usize> {
+        let lists: Vec<usize> = (0..self.facts.len()).filter(|&fact| self.facts[fact][0] == LIST).collect();
+        if lists.is_empty() || self.random.chance(7, 8) {
+            return None;
+        }
+        let fact = self.random.pick(&lists);
+        Some(self.push(&[16, fact as i64], &[], 0, self.facts[fact][7]))
+    }
+
+    /// A quantifier with a body of at most so many nodes.
+    fn quantifier(&mut self, budget: usize) -> usize {
+        let lists: Vec<usize> = (0..self.facts.len()).filter(|&fact| self.facts[fact][0] == LIST).collect();
+        let fact = self.random.pick(&lists);
+        self.body_of = Some(fact);
+        let body = self.bool_tree(budget);
+        self.body_of = None;
+        let kind = self.random.pick(&[14, 15]);
+        self.push(&[kind, fact as i64], &[(2, body)], 0, 1)
+    }
+
     fn enum_leaf(&mut self, set: i64) -> usize {
+        if let Some(twig) = self.element_of(2, set) {
+            return twig;
+        }
         if self.random.chance(3, 5) {
             if let Some(twig) = self.fact_of(|fact| fact[0] == 2 && fact[5] == set) {
                 return twig;
@@ -618,6 +727,9 @@ impl<'a> Trees<'a> {
     }
 
     fn bool_leaf(&mut self) -> usize {
+        if let Some(twig) = self.element_of(0, 0) {
+            return twig;
+        }
         if self.citable > 0 && self.random.chance(2, 5) {
             let rule = self.random.below(self.citable) as i64;
             return self.push(&[8, rule], &[], 0, 1);
@@ -635,6 +747,11 @@ impl<'a> Trees<'a> {
         if budget < 2 {
             return self.bool_leaf();
         }
+        // Where there is room, rather several side by side than one with a large body.
+        let of = if budget < 10 { 10 } else { 40 };
+        if self.quantifiers > 0 && self.body_of.is_none() && self.random.chance(self.quantifiers, of) {
+            return self.quantifier(budget - 1);
+        }
         if budget == 2 || self.random.chance(1, if budget < 8 { 4 } else { 8 }) {
             let child = self.bool_tree(budget - 1);
             let (low, high) = self.range(child);
@@ -644,6 +761,7 @@ impl<'a> Trees<'a> {
         let right = budget - 1 - left;
         if self.random.chance(self.comparisons, 10) {
             let sort = match self.random.below(12) {
+                _ if self.body_of.is_some() && self.random.chance(1, 2) => self.sort_of_elements(),
                 0 => Sort::Bool,
                 1 | 2 if budget < 6 => self.some_set(2).map_or(Sort::Int, Sort::Enum),
                 3 | 4 => self.some_set(3).map_or(Sort::Int, Sort::Money),
@@ -676,6 +794,15 @@ impl<'a> Trees<'a> {
             self.push(&[9], &[(1, x), (2, y)], a.0.min(b.0), a.1.min(b.1))
         } else {
             self.push(&[10], &[(1, x), (2, y)], a.0.max(b.0), a.1.max(b.1))
+        }
+    }
+
+    /// The sort of the elements at hand.
+    fn sort_of_elements(&self) -> Sort {
+        match self.body_of.map(|fact| self.facts[fact]) {
+            Some([_, _, _, _, _, _, 0, _]) => Sort::Bool,
+            Some([_, _, _, _, _, set, 2, _]) => Sort::Enum(set),
+            _ => Sort::Int,
         }
     }
 
@@ -721,6 +848,11 @@ impl<'a> Trees<'a> {
     }
 
     fn number_leaf(&mut self, sort: Sort) -> usize {
+        if sort == Sort::Int {
+            if let Some(twig) = self.element_of(1, 0).or_else(|| self.length_of()) {
+                return twig;
+            }
+        }
         if self.random.chance(3, 5) {
             let fact = match sort {
                 Sort::Money(currency) => self.fact_of(|fact| fact[0] == 3 && fact[5] == currency),

@@ -3,7 +3,9 @@
 use crate::calls::Call;
 use crate::compare::{four, natural, show, Comparer, Disagreement, Lent};
 use crate::damage::{self, hostile};
-use crate::generate::{self, Sheet, Wish, ENTITIES, FACTS, FLOWS, NODES, OPERATIONS, PERSONAS, ROUTES, RULES, STEPS};
+use crate::generate::{
+    self, Sheet, Wish, ENTITIES, FACTS, FLOWS, LIST, NODES, OPERATIONS, PERSONAS, ROUTES, RULES, STEPS,
+};
 use crate::random::Random;
 use fernpocket::raw;
 use reference::{Answer, M};
@@ -60,6 +62,84 @@ fn shaped(eighths: usize, random: &mut Random) -> Wish {
     Wish { counts: Wish::eighths(eighths).counts, ..Wish::random(random) }
 }
 
+/// A length, mostly the right one.
+fn length(right: usize, random: &mut Random) -> usize {
+    match random.below(80) {
+        0 => 0,
+        1 => right + 1,
+        2 => right.saturating_sub(1),
+        3 => right + random.below(20),
+        _ => right,
+    }
+}
+
+/// Facts as they are lent.
+#[derive(Clone, Debug, PartialEq, Eq)]
+pub struct Facts {
+    pub values: Lent<i64>,
+    pub given: Lent<i64>,
+    pub lists: Lent<i64>,
+    pub lengths: Lent<i64>,
+}
+
+impl Facts {
+    /// Facts of a sheet, mostly without a fault.
+    pub fn random(sheet: &Sheet, random: &mut Random) -> Facts {
+        let count = sheet.count(FACTS);
+        let (mut values, mut given) = (vec![0; count], vec![0; count]);
+        for fact in 0..count {
+            let [kind, _, _, has_default, ..] = sheet.tables[FACTS][fact];
+            given[fact] = (has_default == 0 || random.chance(2, 3)) as i64;
+            values[fact] = match given[fact] {
+                1 if kind != LIST => sheet.value_of(fact, random),
+                _ => hostile(random, 0),
+            };
+        }
+        let (mut lists, mut lengths) = sheet.lent_lists(random);
+        if count > 0 && random.chance(1, 5) {
+            for _ in 0..1 + random.below(3) {
+                let fact = random.below(count);
+                let [kind, min, max, .., largest] = sheet.tables[FACTS][fact];
+                match random.below(5) {
+                    0 => given[fact] = hostile(random, 1),
+                    1 => given[fact] = 0,
+                    wrong if kind == LIST => {
+                        let before = || sheet.lists().take_while(|&other| other < fact);
+                        let first: i64 = before().map(|list| sheet.tables[FACTS][list][7]).sum();
+                        let list = before().count();
+                        let length = lengths[list];
+                        if wrong == 2 || length <= 0 || length > largest {
+                            lengths[list] = match random.below(3) {
+                                0 => largest + 1,
+                                1 => -1,
+                                _ => hostile(random, largest),
+                            };
+                        } else {
+                            // An element, the last one more often.
+                            let place = if random.chance(1, 2) { length - 1 } else { random.within(0, length - 1) };
+                            let slot = &mut lists[(first + place) as usize];
+                            *slot = match random.below(3) {
+                                0 => min - 1,
+                                1 => max + 1,
+                                _ => hostile(random, *slot),
+                            };
+                        }
+                    }
+                    2 => values[fact] = min - 1,
+                    3 => values[fact] = max + 1,
+                    _ => values[fact] = hostile(random, values[fact]),
+                }
+            }
+        }
+        values.resize(length(count, random), 0);
+        given.resize(length(count, random), 1);
+        lists.resize(length(lists.len(), random), 0);
+        lengths.resize(length(lengths.len(), random), 0);
+        let [values, given, lists, lengths] = [values, given, lists, lengths].map(|words| Lent::new(&words, random));
+        Facts { values, given, lists, lengths }
+    }
+}
+
 struct Round<'a> {
     comparer: &'a mut Comparer,
     random: Random,
@@ -72,6 +152,20 @@ macro_rules! typed {
         $(let $argument = natural($argument)?;)*
         Some(four($call))
     }};
+}
+
+/// A call on a sheet with the facts that are lent, and its other arguments. The values are lent as slice or lend says.
+macro_rules! with {
+    ($facts:ident, $values:ident, $call:path[$words:ident]($($argument:expr),*)) => {
+        $call(
+            $words,
+            $facts.values.$values(),
+            $facts.given.slice(),
+            $facts.lists.slice(),
+            $facts.lengths.slice(),
+            $($argument),*
+        )
+    };
 }
 
 /// A wanted word as the wrappers take it; none of what they cannot be given.
@@ -198,44 +292,12 @@ impl Round<'_> {
 
     /// A length, mostly the right one.
     fn length(&mut self, right: usize) -> usize {
-        match self.random.below(60) {
-            0 => 0,
-            1 => right + 1,
-            2 => right.saturating_sub(1),
-            3 => right + self.random.below(20),
-            _ => right,
-        }
+        length(right, &mut self.random)
     }
 
-    /// Values and given flags, mostly without a fault.
-    fn facts(&mut self) -> (Lent<i64>, Lent<i64>) {
-        let count = self.sheet.count(FACTS);
-        let mut values = vec![0; count];
-        let mut given = vec![0; count];
-        for fact in 0..count {
-            let has_default = self.sheet.tables[FACTS][fact][3] == 1;
-            given[fact] = (!has_default || self.random.chance(2, 3)) as i64;
-            values[fact] = match given[fact] {
-                1 => self.sheet.value_of(fact, &mut self.random),
-                _ => hostile(&mut self.random, 0),
-            };
-        }
-        if count > 0 && self.random.chance(1, 5) {
-            for _ in 0..1 + self.random.below(3) {
-                let fact = self.random.below(count);
-                let [_, min, max, ..] = self.sheet.tables[FACTS][fact];
-                match self.random.below(5) {
-                    0 => given[fact] = hostile(&mut self.random, 1),
-                    1 => given[fact] = 0,
-                    2 => values[fact] = min - 1,
-                    3 => values[fact] = max + 1,
-                    _ => values[fact] = hostile(&mut self.random, values[fact]),
-                }
-            }
-        }
-        values.resize(self.length(count), 0);
-        given.resize(self.length(count), 1);
-        (Lent::new(&values, &mut self.random), Lent::new(&given, &mut self.random))
+    /// Facts, mostly without a fault.
+    fn facts(&mut self) -> Facts {
+        Facts::random(&self.sheet, &mut self.random)
     }
 
     /// States, mostly good.
@@ -362,76 +424,75 @@ impl Round<'_> {
     }
 
     fn assemble(&mut self, words: &[i64]) -> Done {
-        let mut buffers = self.facts();
+        let mut facts = self.facts();
         self.comparer
             .compare(
                 Call::Assemble,
-                &mut buffers,
-                |(v, g)| reference::assemble(words, v.lend(), g.slice()),
-                |(v, g)| raw::assemble(words, v.lend(), g.slice()),
-                |(v, g)| Some(four(fernpocket::assemble(words, v.lend(), g.slice()))),
+                &mut facts,
+                |f| with!(f, lend, reference::assemble[words]()),
+                |f| with!(f, lend, raw::assemble[words]()),
+                |f| Some(four(with!(f, lend, fernpocket::assemble[words]()))),
                 || show(words),
             )
             .map(|_| ())
     }
 
     fn verdicts(&mut self, words: &[i64]) -> Done {
-        let (v, g) = self.facts();
         let length = self.length(self.sheet.count(RULES));
-        let mut buffers = (v, g, Lent::rubbish(length, &mut self.random));
+        let mut buffers = (self.facts(), Lent::rubbish(length, &mut self.random));
         self.comparer
             .compare(
                 Call::Verdicts,
                 &mut buffers,
-                |(v, g, o)| reference::verdicts(words, v.slice(), g.slice(), o.lend()),
-                |(v, g, o)| raw::verdicts(words, v.slice(), g.slice(), o.lend()),
-                |(v, g, o)| Some(four(fernpocket::verdicts(words, v.slice(), g.slice(), o.lend()))),
+                |(f, o)| with!(f, slice, reference::verdicts[words](o.lend())),
+                |(f, o)| with!(f, slice, raw::verdicts[words](o.lend())),
+                |(f, o)| Some(four(with!(f, slice, fernpocket::verdicts[words](o.lend())))),
                 || show(words),
             )
             .map(|_| ())
     }
 
     fn operate(&mut self, words: &[i64], states: &mut Lent<i64>) -> Done {
-        let (v, g) = self.facts();
+        let facts = self.facts();
         let operation = self.number(OPERATIONS);
         let persona = self.persona(operation);
         let wanted = self.wanted(operation);
-        let mut buffers = (v, g, states.clone());
+        let mut buffers = (facts, states.clone());
         self.comparer.compare(
             Call::Operate,
             &mut buffers,
-            |(v, g, s)| reference::operate(words, v.slice(), g.slice(), s.lend(), persona, operation, wanted),
-            |(v, g, s)| raw::operate(words, v.slice(), g.slice(), s.lend(), persona, operation, wanted),
-            |(v, g, s)| {
+            |(f, s)| with!(f, slice, reference::operate[words](s.lend(), persona, operation, wanted)),
+            |(f, s)| with!(f, slice, raw::operate[words](s.lend(), persona, operation, wanted)),
+            |(f, s)| {
                 let wanted = option(wanted)?;
                 typed!(
                     [persona, operation],
-                    fernpocket::operate(words, v.slice(), g.slice(), s.lend(), persona, operation, wanted)
+                    with!(f, slice, fernpocket::operate[words](s.lend(), persona, operation, wanted))
                 )
             },
             || format!("persona {persona}, operation {operation}, wanted {wanted}\n{}", show(words)),
         )?;
-        *states = buffers.2;
+        *states = buffers.1;
         Ok(())
     }
 
     fn run(&mut self, words: &[i64], states: &mut Lent<i64>) -> Done {
-        let (v, g) = self.facts();
+        let facts = self.facts();
         let flow = self.number(FLOWS);
         let wanted = self.wanted_of_steps(flow);
-        let mut buffers = (v, g, states.clone(), wanted, self.path(flow));
+        let mut buffers = (facts, states.clone(), wanted, self.path(flow));
         self.comparer.compare(
             Call::Run,
             &mut buffers,
-            |(v, g, s, w, p)| reference::run(words, v.slice(), g.slice(), s.lend(), flow, w.slice(), p.lend()),
-            |(v, g, s, w, p)| raw::run(words, v.slice(), g.slice(), s.lend(), flow, w.slice(), p.lend()),
-            |(v, g, s, w, p)| {
+            |(f, s, w, p)| with!(f, slice, reference::run[words](s.lend(), flow, w.slice(), p.lend())),
+            |(f, s, w, p)| with!(f, slice, raw::run[words](s.lend(), flow, w.slice(), p.lend())),
+            |(f, s, w, p)| {
                 let wanted = w.slice().iter().copied().map(option).collect::<Option<Vec<_>>>()?;
-                typed!([flow], fernpocket::run(words, v.slice(), g.slice(), s.lend(), flow, &wanted, p.lend()))
+                typed!([flow], with!(f, slice, fernpocket::run[words](s.lend(), flow, &wanted, p.lend())))
             },
             || format!("flow {flow}\n{}", show(words)),
         )?;
-        *states = buffers.2;
+        *states = buffers.1;
         Ok(())
     }
 

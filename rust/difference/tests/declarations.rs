@@ -175,6 +175,8 @@ fn limits_are_the_same_everywhere() {
     let (header_words, record_words) = (constant("HEADER_WORDS"), constant("RECORD_WORDS"));
     let words = header_words + record_words * reference::LIMITS[1..].iter().sum::<i64>();
     assert_eq!((constant("MOST_WORDS"), constant("MOST_TEXT")), (words, 12 * words));
+    assert_eq!(constant("MOST_LENGTH"), reference::MOST_LENGTH);
+    assert_eq!(constant("MOST_SLOTS"), reference::MOST_LENGTH * constant("MOST_FACTS"));
     assert_eq!(constant("LARGEST_NUMBER"), reference::M);
     assert_eq!(constant("STACK"), fernpocket::STACK as i64);
 }

@@ -1,15 +1,16 @@
 //! Every word of small sheets, and every byte of a text, changed to every value of a list.
 
-use difference::compare::{Comparer, Lent};
+use difference::calls::Call;
+use difference::compare::{four, Comparer, Lent};
 use difference::generate::{self, Wish};
 use difference::random::Random;
-use fernpocket::example;
+use fernpocket::{example, raw};
 use reference::M;
 
 #[rustfmt::skip]
-const VALUES: [i64; 34] = [
-    i64::MIN, -M - 1, -M, -2, -1, 0, 1, 2, 3, 4, 5, 6, 7, 8, 9, 11, 12, 13, 14, 15, 16, 17, 24, 31, 32, 127, 128, 255,
-    256, 11_574, 11_575, M, M + 1, i64::MAX,
+const VALUES: [i64; 37] = [
+    i64::MIN, -M - 1, -M, -2, -1, 0, 1, 2, 3, 4, 5, 6, 7, 8, 9, 11, 12, 13, 14, 15, 16, 17, 18, 24, 31, 32, 100, 101,
+    127, 128, 255, 256, 11_574, 11_575, M, M + 1, i64::MAX,
 ];
 
 fn agree(result: Result<(), difference::compare::Disagreement>) {
@@ -71,6 +72,99 @@ fn every_length_of_the_example() {
     for length in 0..words.len() {
         agree(comparer.check(&words[..length]));
     }
+}
+
+/// A sheet of three lists and a Bool, with a rule for each quantifier over each list, and one that compares lengths.
+fn lists() -> Vec<i64> {
+    let facts: [&[i64]; 4] =
+        [&[5, 0, 1, 0, 0, 0, 0, 2], &[0, 0, 1, 1, 1], &[5, -3, 4, 0, 0, 0, 1, 3], &[5, 0, 2, 0, 0, 9, 2, 1]];
+    let nodes: [&[i64]; 21] = [
+        &[17, 0],
+        &[14, 0, 0],
+        &[17, 0],
+        &[15, 0, 2],
+        &[17, 2],
+        &[0, 1],
+        &[7, 2, 4, 5],
+        &[14, 2, 6],
+        &[17, 2],
+        &[0, 1],
+        &[7, 4, 8, 9],
+        &[15, 2, 10],
+        &[17, 3],
+        &[2, 2, 9],
+        &[7, 1, 12, 13],
+        &[14, 3, 14],
+        &[16, 0],
+        &[16, 2],
+        &[7, 2, 16, 17],
+        &[8, 0],
+        &[15, 3, 19],
+    ];
+    let rules: [&[i64]; 7] = [&[0, 1], &[0, 3], &[0, 7], &[0, 11], &[0, 15], &[0, 18], &[1, 20]];
+    let mut words = vec![1, 0, 4, 21, 7, 0, 0, 0, 0, 0, 0, 0, 0, 0, 0, 0];
+    for record in facts.into_iter().chain(nodes).chain(rules) {
+        let start = words.len();
+        words.extend_from_slice(record);
+        words.resize(start + 8, 0);
+    }
+    words
+}
+
+/// Facts as they are lent: values, given flags, lists and lengths.
+type Lists = [Vec<i64>; 4];
+
+fn verdicts(comparer: &mut Comparer, words: &[i64], [values, given, lists, lengths]: &Lists) {
+    let mut out = [7i64; 7];
+    agree(
+        comparer
+            .compare(
+                Call::Verdicts,
+                &mut out,
+                |out| reference::verdicts(words, values, given, lists, lengths, out),
+                |out| raw::verdicts(words, values, given, lists, lengths, out),
+                |out| Some(four(fernpocket::verdicts(words, values, given, lists, lengths, out))),
+                || format!("values {values:?}, given {given:?}, lists {lists:?}, lengths {lengths:?}"),
+            )
+            .map(|_| ()),
+    );
+}
+
+#[test]
+fn every_word_of_a_sheet_with_lists() {
+    let mut comparer = Comparer::default();
+    let mut words = lists();
+    assert_eq!(reference::check(&words).refusal, 0);
+    every_word(&mut comparer, &mut words);
+}
+
+#[test]
+fn every_word_of_lent_lists() {
+    let mut comparer = Comparer::default();
+    let words = lists();
+    for lengths in (0..24).map(|code| [code % 3, code / 3 % 4, code / 12]) {
+        for lists in [[1, 1, -3, 0, 1, 2], [0, 1, 4, 0, 2, 1], [1, 0, 0, 0, 0, 0]] {
+            let mut lent: Lists = [vec![9, 0, 9, 9], vec![1, 0, 1, 1], lists.to_vec(), lengths.to_vec()];
+            verdicts(&mut comparer, &words, &lent);
+            for slice in 0..lent.len() {
+                for place in 0..lent[slice].len() {
+                    let old = lent[slice][place];
+                    for value in VALUES.into_iter().chain([-3, -4, old + (1 << 32)]) {
+                        lent[slice][place] = value;
+                        verdicts(&mut comparer, &words, &lent);
+                    }
+                    lent[slice][place] = old;
+                }
+                let whole = lent[slice].clone();
+                for length in 0..=whole.len() + 2 {
+                    lent[slice].resize(length, 0);
+                    verdicts(&mut comparer, &words, &lent);
+                }
+                lent[slice] = whole;
+            }
+        }
+    }
+    println!("{}", comparer.reached);
 }
 
 #[test]

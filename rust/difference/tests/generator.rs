@@ -3,6 +3,7 @@
 use difference::damage;
 use difference::generate::*;
 use difference::random::Random;
+use difference::rounds::Facts;
 use reference::{HEADER, M, RECORD};
 use std::collections::BTreeMap;
 
@@ -33,10 +34,122 @@ fn sorts(sheet: &Sheet) -> Vec<(i64, i64)> {
             4 | 5 => sorts[a as usize].max(sorts[b as usize]),
             12 => (3, b),
             13 => (4, b),
+            16 => (1, 0),
+            17 => (sheet.tables[FACTS][a as usize][6], sheet.tables[FACTS][a as usize][5]),
             _ => (0, 0),
         });
     }
     sorts
+}
+
+/// The children of a node.
+fn children(node: &Record) -> Vec<i64> {
+    match *node {
+        [4 | 5 | 9 | 10, a, b, ..] => vec![a, b],
+        [6 | 11, a, ..] => vec![a],
+        [7, _, a, b, ..] => vec![a, b],
+        [14 | 15, _, body, ..] => vec![body],
+        _ => vec![],
+    }
+}
+
+/// The nodes of the tree under a node, itself too.
+fn tree(nodes: &[Record], root: i64) -> Vec<&Record> {
+    let root = &nodes[root as usize];
+    let under = children(root).into_iter().flat_map(|child| tree(nodes, child));
+    [root].into_iter().chain(under).collect()
+}
+
+fn quantifies(node: &Record) -> bool {
+    [14, 15].contains(&node[0])
+}
+
+/// The lists of which the tree under a node cites an element outside of every quantifier over that list.
+fn open(nodes: &[Record], root: i64) -> Vec<i64> {
+    match nodes[root as usize] {
+        [17, list, ..] => vec![list],
+        [14 | 15, list, body, ..] => open(nodes, body).into_iter().filter(|&other| other != list).collect(),
+        ref node => children(node).into_iter().flat_map(|child| open(nodes, child)).collect(),
+    }
+}
+
+/// What there is of lists and quantifiers.
+fn note_lists(seen: &mut Seen, sheet: &Sheet) {
+    let (facts, nodes) = (&sheet.tables[FACTS], &sheet.tables[NODES]);
+    let lists: Vec<usize> = sheet.lists().collect();
+    for (element, name) in ["Bool", "Int", "Enum"].into_iter().enumerate() {
+        for largest in [0, 1, 2, 100] {
+            let some = lists.iter().any(|&list| facts[list][6..] == [element as i64, largest]);
+            seen.note(format!("a list of up to {largest} of {name}"), some);
+        }
+    }
+    let of_set = |kind: i64, set: i64| facts.iter().any(|fact| fact[0] == kind && fact[5] == set);
+    let some = lists.iter().any(|&list| facts[list][6] == 2 && of_set(2, facts[list][5]));
+    seen.note("an Enum and a list of Enums of one set", some);
+    seen.note("facts without a list", !facts.is_empty() && lists.is_empty());
+    seen.note("facts that are all lists", facts.len() > 2 && lists.len() == facts.len());
+    for kind in 14..18 {
+        for (element, name) in ["Bool", "Int", "Enum"].into_iter().enumerate() {
+            let some = nodes.iter().any(|node| node[0] == kind && facts[node[1] as usize][6] == element as i64);
+            seen.note(format!("node kind {kind} over a list of {name}"), some);
+        }
+        let later = |list: i64| list as usize != lists[0] && facts[lists[0]][7] > 0;
+        let some = nodes.iter().any(|node| node[0] == kind && later(node[1]));
+        seen.note(format!("node kind {kind} over a list that is not the first"), some);
+    }
+    for kind in [14, 15] {
+        let body = |wanted: &dyn Fn(&[&Record], i64) -> bool| {
+            let quantifiers = nodes.iter().filter(|node| node[0] == kind);
+            quantifiers.into_iter().any(|node| wanted(&tree(nodes, node[2]), node[1]))
+        };
+        let name = if kind == 14 { "for all" } else { "exists" };
+        for inner in [0, 1, 2, 3, 4, 5, 6, 7, 8, 9, 10, 11, 12, 13, 16, 17] {
+            let some = body(&|body, _| body.iter().any(|node| node[0] == inner));
+            seen.note(format!("{name}, with node kind {inner} in its body"), some);
+        }
+        let some = body(&|body, list| body.iter().filter(|node| node[0] == 17 && node[1] == list).count() > 1);
+        seen.note(format!("{name}, with its element twice"), some);
+        let some = body(&|body, _| body.iter().all(|node| node[0] != 17));
+        seen.note(format!("{name}, without an element"), some);
+        let some = body(&|body, list| body.iter().any(|node| node[0] == 16 && node[1] != list));
+        seen.note(format!("{name}, with the length of another list"), some);
+        seen.note(format!("{name}, with a body of more than 30 nodes"), body(&|body, _| body.len() > 30));
+        for outer in [7, 9, 10, 11] {
+            let some = nodes
+                .iter()
+                .any(|node| node[0] == outer && children(node).iter().any(|&child| nodes[child as usize][0] == kind));
+            seen.note(format!("{name} under node kind {outer}"), some);
+        }
+    }
+    let rules = sheet.tables[RULES].iter().map(|rule| rule[1]);
+    let operations = sheet.tables[OPERATIONS].iter().map(|operation| operation[1]);
+    let branches = sheet.tables[STEPS].iter().filter(|step| step[0] == 1).map(|step| step[1]);
+    let owners = [
+        ("a rule", rules.collect::<Vec<_>>()),
+        ("an operation", operations.collect()),
+        ("a branch", branches.collect()),
+    ];
+    for (owner, roots) in owners {
+        let some = |wanted: &dyn Fn(&[&Record]) -> bool| roots.iter().any(|&root| wanted(&tree(nodes, root)));
+        let over = |tree: &[&Record]| -> Vec<i64> {
+            tree.iter().filter(|node| quantifies(node)).map(|node| node[1]).collect()
+        };
+        seen.note(format!("{owner} over a quantifier"), some(&|tree| !over(tree).is_empty()));
+        seen.note(format!("{owner} over the element of a list"), some(&|tree| tree.iter().any(|node| node[0] == 17)));
+        seen.note(format!("{owner} over a length"), some(&|tree| tree.iter().any(|node| node[0] == 16)));
+        let two = |same: bool| move |lists: &[i64]| lists.windows(2).any(|pair| (pair[0] == pair[1]) == same);
+        seen.note(format!("{owner} over two quantifiers of one list"), some(&|tree| two(true)(&over(tree))));
+        seen.note(format!("{owner} over quantifiers of two lists"), some(&|tree| two(false)(&over(tree))));
+    }
+    let loose =
+        (0..nodes.len() as i64).filter(|&node| !open(nodes, node).is_empty() && sorts(sheet)[node as usize] == (0, 0));
+    let loose: Vec<i64> = loose.collect();
+    let some = loose.iter().any(|&node| quantifies(&nodes[node as usize]));
+    seen.note("a quantifier over one list whose body cites another's element", some);
+    seen.note(
+        "an element outside of every quantifier, under a not",
+        loose.iter().any(|&node| nodes[node as usize][0] == 11),
+    );
 }
 
 /// The children of a sum, a difference or a comparison.
@@ -51,7 +164,7 @@ fn of_two(node: &Record) -> Option<(&'static str, [i64; 2])> {
 
 fn note(seen: &mut Seen, sheet: &Sheet) {
     let nodes = &sheet.tables[NODES];
-    for kind in 0..14 {
+    for kind in 0..18 {
         seen.note(format!("node kind {kind}"), nodes.iter().any(|node| node[0] == kind));
     }
     for operator in 0..6 {
@@ -101,16 +214,9 @@ fn note(seen: &mut Seen, sheet: &Sheet) {
     };
     let some = pairs.iter().any(|&(_, [one, other])| just_fits(one, other) || just_fits(other, one));
     seen.note("a literal of which no more would fit into a smaller unit", some);
+    note_lists(seen, sheet);
     let mut named = vec![false; nodes.len()];
-    for &[kind, a, b, c, ..] in nodes {
-        let children: &[i64] = match kind {
-            4 | 5 | 9 | 10 => &[a, b],
-            6 | 11 => &[a],
-            7 => &[b, c],
-            _ => &[],
-        };
-        children.iter().for_each(|&child| named[child as usize] = true);
-    }
+    nodes.iter().flat_map(children).for_each(|child| named[child as usize] = true);
     let owners = [(RULES, 1), (OPERATIONS, 1)];
     for node in owners.iter().flat_map(|&(kind, word)| sheet.tables[kind].iter().map(move |r| r[word])) {
         named[node as usize] = true;
@@ -244,6 +350,196 @@ fn conversions_that_leave_m_are_made() {
                 let leaves = |(unit, size): (i64, i64), (to, _): (i64, i64)| unit < to && size * times(unit, to) > M;
                 seen.note(format!("the first child of a {name} leaves -M..M"), leaves(one, other));
                 seen.note(format!("the second child of a {name} leaves -M..M"), leaves(other, one));
+            }
+        }
+    }
+    made(&seen);
+}
+
+/// What is wrong with a record of lists or quantifiers that was refused, on a sheet whose records before it are good.
+fn fault(sheet: &Sheet, place: i64) -> Option<String> {
+    let (facts, nodes) = (&sheet.tables[FACTS], &sheet.tables[NODES]);
+    let tables = (FACTS..=ROUTES).scan(place as usize, |place, kind| {
+        let here = *place;
+        *place = place.wrapping_sub(sheet.count(kind));
+        Some((kind, here))
+    });
+    let (kind, index) = tables.into_iter().find(|&(kind, index)| index < sheet.count(kind))?;
+    let record = &sheet.tables[kind][index];
+    // Does the word name a node before this one, of type Bool, that nothing else has named?
+    let sorts = |node: i64| {
+        let mut before = sheet.clone();
+        before.tables[NODES].truncate(index);
+        self::sorts(&before)[node as usize]
+    };
+    let owner = |name: &str, root: i64| {
+        let there = (0..nodes.len() as i64).contains(&root);
+        (there && !open(nodes, root).is_empty())
+            .then(|| format!("{name} that cites an element outside of its list's quantifier"))
+    };
+    match (kind, *record) {
+        (FACTS, [LIST, min, max, has_default, default, set, element, largest]) => Some(
+            if !(0..=2).contains(&element) {
+                "a list of a type that is not listed"
+            } else if !(0..=100).contains(&largest) {
+                "a list with a wrong largest length"
+            } else if has_default != 0 || default != 0 {
+                "a list with a default"
+            } else if element == 2 && min == 0 && (0..=255).contains(&max) && (0..128).contains(&set) {
+                "a list of Enums with another max than its set"
+            } else {
+                "a list with a wrong min, max or set"
+            }
+            .to_string(),
+        ),
+        (FACTS, [.., element, largest]) => ((element, largest) != (0, 0)).then(|| "a fact with words of a list".into()),
+        (NODES, [3, fact, ..]) => {
+            facts.get(fact as usize).is_some_and(|fact| fact[0] == LIST).then(|| "a fact node that names a list".into())
+        }
+        (NODES, [kind @ 14..=17, fact, body, ..]) => {
+            let Some(fact) = usize::try_from(fact).ok().and_then(|fact| facts.get(fact)) else {
+                return Some(format!("node kind {kind} over a fact that does not exist"));
+            };
+            if fact[0] != LIST {
+                return Some(format!("node kind {kind} over a fact that is no list"));
+            }
+            if kind > 15 || !(0..index as i64).contains(&body) {
+                return None;
+            }
+            if tree(nodes, body).into_iter().any(quantifies) {
+                return Some(format!("node kind {kind} with a quantifier in its body"));
+            }
+            (sorts(body).0 != 0).then(|| format!("node kind {kind} with a body that is no Bool"))
+        }
+        (RULES, [_, root, ..]) => owner("a rule", root),
+        (OPERATIONS, [_, root, ..]) => owner("an operation", root),
+        (STEPS, [1, root, ..]) => owner("a branch", root),
+        _ => None,
+    }
+}
+
+#[test]
+fn bad_lists_and_quantifiers_are_made() {
+    let mut seen = Seen::default();
+    for what in ["a list of a type that is not listed", "a list with a wrong largest length", "a list with a default"] {
+        seen.note(what, false);
+    }
+    for what in ["a list of Enums with another max than its set", "a list with a wrong min, max or set"] {
+        seen.note(what, false);
+    }
+    seen.note("a fact with words of a list", false);
+    seen.note("a fact node that names a list", false);
+    for kind in 14..18 {
+        seen.note(format!("node kind {kind} over a fact that does not exist"), false);
+        seen.note(format!("node kind {kind} over a fact that is no list"), false);
+    }
+    for kind in [14, 15] {
+        seen.note(format!("node kind {kind} with a quantifier in its body"), false);
+        seen.note(format!("node kind {kind} with a body that is no Bool"), false);
+    }
+    for owner in ["a rule", "an operation", "a branch"] {
+        seen.note(format!("{owner} that cites an element outside of its list's quantifier"), false);
+    }
+    for round in 0..3000 {
+        let mut random = Random::of_round(6, round);
+        let sheet = sheet(&Wish::random(&mut random), &mut random);
+        for _ in 0..20 {
+            let words = damage::sheet(&sheet, &mut random);
+            let answer = reference::check(&words);
+            if answer.refusal == 3 {
+                if let Some(fault) = fault(&Sheet::read(&words), answer.place) {
+                    seen.note(fault, true);
+                }
+            }
+        }
+    }
+    made(&seen);
+}
+
+#[test]
+fn lent_lists_of_every_sort_are_made() {
+    let mut seen = Seen::default();
+    for round in 0..3000 {
+        let mut random = Random::of_round(7, round);
+        let sheet = sheet(&Wish::random(&mut random), &mut random);
+        let words = sheet.words();
+        let lists: Vec<usize> = sheet.lists().collect();
+        for _ in 0..10 {
+            let facts = Facts::random(&sheet, &mut random);
+            let [values, given, slots, lengths] =
+                [&facts.values, &facts.given, &facts.lists, &facts.lengths].map(|lent| lent.slice());
+            let mut verdicts = vec![0; sheet.count(RULES)];
+            let answer = reference::verdicts(&words, values, given, slots, lengths, &mut verdicts);
+            if answer.refusal == 4 {
+                let right: i64 = lists.iter().map(|&list| sheet.tables[FACTS][list][7]).sum();
+                seen.note("lists that are too short", slots.len() < right as usize);
+                seen.note("lists that are too long", slots.len() > right as usize);
+                seen.note("too few lengths", lengths.len() < lists.len());
+                seen.note("too many lengths", lengths.len() > lists.len());
+                seen.note("lists lent where there are none", lists.is_empty() && !slots.is_empty());
+                continue;
+            }
+            let mut slots = slots;
+            for (number, &list) in lists.iter().enumerate() {
+                let [_, min, max, .., largest] = sheet.tables[FACTS][list];
+                let (own, after) = slots.split_at(largest as usize);
+                slots = after;
+                let (length, given) = (lengths[number], given[list]);
+                let here = answer.place == list as i64;
+                let refused = |refusal: i64| answer.refusal == refusal && here;
+                seen.note("a list that is refused 6 for its flag", refused(6) && given != 1);
+                seen.note("a length below 0, refused 6", refused(6) && given == 1 && length < 0);
+                seen.note(
+                    "a length one past the largest, refused 6",
+                    refused(6) && given == 1 && length == largest + 1,
+                );
+                seen.note("a length far past the largest, refused 6", refused(6) && given == 1 && length > 1000);
+                let wrong = |element: &i64| !(min..=max).contains(element);
+                let elements = usize::try_from(length).ok().and_then(|length| own.get(..length));
+                let (last, others) = elements.and_then(|all| all.split_last()).unwrap_or((&min, &[]));
+                seen.note("a wrong last element, refused 6", refused(6) && wrong(last) && !others.iter().any(wrong));
+                seen.note(
+                    "a wrong element before good ones, refused 6",
+                    refused(6) && !wrong(last) && others.iter().any(wrong),
+                );
+                seen.note("a list that is not given, with elements, refused 7", refused(7) && length > 0);
+                seen.note("a list that is not given, with length 0, refused 7", refused(7) && length == 0);
+                seen.note("a list that is not given, with a wrong length, refused 7", refused(7) && elements.is_none());
+                seen.note("a list that is refused and not the first", refused(6) && number > 0);
+                if answer.refusal != 0 {
+                    continue;
+                }
+                let all = elements.expect("a length in range");
+                seen.note("an empty list", all.is_empty());
+                seen.note("a list of one element", all.len() == 1);
+                seen.note("a full list", all.len() == own.len() && largest > 0);
+                seen.note("a list of 100 elements", all.len() == 100);
+                seen.note("a list of largest 0", largest == 0);
+                seen.note("rubbish past the elements", own[all.len()..].iter().any(wrong));
+                seen.note("good words past the elements", own[all.len()..].iter().any(|word| !wrong(word)));
+                seen.note("a list's value word that is no element", wrong(&values[list]));
+                let same = |elements: &[i64]| elements.windows(2).all(|pair| pair[0] == pair[1]);
+                seen.note("elements that are all the same", all.len() > 2 && same(all));
+                seen.note(
+                    "elements of which the last one differs",
+                    all.len() > 2 && same(&all[..all.len() - 1]) && !same(all),
+                );
+                seen.note("elements of which the first one differs", all.len() > 2 && same(&all[1..]) && !same(all));
+            }
+            if answer.refusal == 0 {
+                for (rule, verdict) in sheet.tables[RULES].iter().zip(&verdicts) {
+                    if let [kind @ (14 | 15), list, ..] = sheet.tables[NODES][rule[1] as usize] {
+                        let number = lists.iter().position(|&other| other as i64 == list).expect("a list");
+                        let name = if kind == 14 { "for all" } else { "exists" };
+                        for value in 0..2 {
+                            let is = *verdict == value;
+                            seen.note(format!("{name} over one element is {value}"), is && lengths[number] == 1);
+                            seen.note(format!("{name} over several elements is {value}"), is && lengths[number] > 1);
+                        }
+                        seen.note(format!("{name} over no elements"), lengths[number] == 0);
+                        assert!(lengths[number] > 0 || *verdict == (kind == 14) as i64);
+                    }
+                }
             }
         }
     }

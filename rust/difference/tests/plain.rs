@@ -68,8 +68,15 @@ fn listings_are_all_paths_in_order() {
     assert!(listed > 10_000, "{listed}");
 }
 
-/// The value of every node, children first; those that cite a rule without a verdict yet are worthless for now.
-fn values(sheet: &Sheet, facts: &[i64], verdicts: &[i64]) -> Vec<i64> {
+/// Facts, each with its value, and each list with its elements.
+struct Known {
+    values: Vec<i64>,
+    elements: Vec<Vec<i64>>,
+}
+
+/// The value of every node, children first; those that cite a rule without a verdict yet are worthless for now. With an
+/// element of a list at hand those outside of its quantifier's body are worthless, and without one its citations are.
+fn values(sheet: &Sheet, facts: &Known, verdicts: &[i64], at_hand: Option<(i64, i64)>) -> Vec<i64> {
     let mut of: Vec<i64> = vec![];
     // The unit of a duration, 0 of all else.
     let mut units: Vec<usize> = vec![];
@@ -92,7 +99,7 @@ fn values(sheet: &Sheet, facts: &[i64], verdicts: &[i64]) -> Vec<i64> {
             13 => (a, b as usize),
             3 => {
                 let [kind, _, _, _, _, unit, ..] = sheet.tables[FACTS][a as usize];
-                (facts[a as usize], if kind == 4 { unit as usize } else { 0 })
+                (facts.values[a as usize], if kind == 4 { unit as usize } else { 0 })
             }
             4 => {
                 let (x, y, unit) = both(a, b);
@@ -112,6 +119,16 @@ fn values(sheet: &Sheet, facts: &[i64], verdicts: &[i64]) -> Vec<i64> {
             8 => (verdicts[a as usize], 0),
             9 => (at(a) & at(b), 0),
             10 => (at(a) | at(b), 0),
+            14 | 15 if at_hand.is_some() => (0, 0),
+            14 | 15 => {
+                // How many of the elements satisfy the body.
+                let all = &facts.elements[a as usize];
+                let of_body = |element: &i64| values(sheet, facts, verdicts, Some((a, *element)))[b as usize];
+                let holds = all.iter().map(of_body).sum::<i64>();
+                (if kind == 14 { holds == all.len() as i64 } else { holds > 0 } as i64, 0)
+            }
+            16 => (facts.elements[a as usize].len() as i64, 0),
+            17 => (at_hand.filter(|&(list, _)| list == a).map_or(0, |(_, element)| element), 0),
             _ => (1 - at(a), 0),
         };
         of.push(value);
@@ -122,14 +139,23 @@ fn values(sheet: &Sheet, facts: &[i64], verdicts: &[i64]) -> Vec<i64> {
 
 #[test]
 fn verdicts_runs_and_operations_by_the_definition() {
-    let (mut runs, mut moves, mut several, mut blocked) = (0, 0, 0, 0);
+    let (mut runs, mut moves, mut several, mut blocked, mut quantifiers) = (0, 0, 0, 0, 0);
     for (sheet, words, mut random) in sheets(2500) {
         let facts: Vec<i64> = (0..sheet.count(FACTS)).map(|fact| sheet.value_of(fact, &mut random)).collect();
         let given = vec![1; facts.len()];
+        let (slots, lengths) = sheet.lent_lists(&mut random);
+        let mut elements = vec![vec![]; facts.len()];
+        let mut first = 0;
+        for (list, length) in sheet.lists().zip(&lengths) {
+            elements[list] = slots[first..first + *length as usize].to_vec();
+            first += sheet.tables[FACTS][list][7] as usize;
+        }
+        let known = Known { values: facts.clone(), elements };
+        quantifiers += sheet.tables[NODES].iter().filter(|node| [14, 15].contains(&node[0])).count();
         // Stratum by stratum; a rule cites lower strata only.
         let mut verdicts = vec![0; sheet.count(RULES)];
         for stratum in 0..16 {
-            let of = values(&sheet, &facts, &verdicts);
+            let of = values(&sheet, &known, &verdicts, None);
             for (rule, &[of_rule, when, ..]) in sheet.tables[RULES].iter().enumerate() {
                 if of_rule == stratum {
                     verdicts[rule] = of[when as usize];
@@ -137,10 +163,10 @@ fn verdicts_runs_and_operations_by_the_definition() {
             }
         }
         let mut found = vec![7; verdicts.len()];
-        assert_eq!(reference::verdicts(&words, &facts, &given, &mut found), Answer::default());
+        assert_eq!(reference::verdicts(&words, &facts, &given, &slots, &lengths, &mut found), Answer::default());
         assert_eq!(found, verdicts);
 
-        let of = values(&sheet, &facts, &verdicts);
+        let of = values(&sheet, &known, &verdicts, None);
         let start: Vec<i64> = (0..sheet.count(ENTITIES))
             .map(|entity| random.below(sheet.tables[ENTITIES][entity][0] as usize) as i64)
             .collect();
@@ -165,7 +191,17 @@ fn verdicts_runs_and_operations_by_the_definition() {
                 } else {
                     let before = states.clone();
                     let wanted = wanted[step - first_step];
-                    let answer = reference::operate(&words, &facts, &given, &mut states, persona, what, wanted);
+                    let answer = reference::operate(
+                        &words,
+                        &facts,
+                        &given,
+                        &slots,
+                        &lengths,
+                        &mut states,
+                        persona,
+                        what,
+                        wanted,
+                    );
                     check_operation(&sheet, &of, (what as usize, wanted), persona, &before, &states, answer);
                     moves += (answer.refusal == 0) as usize;
                     several += (answer.refusal == 16) as usize;
@@ -183,7 +219,8 @@ fn verdicts_runs_and_operations_by_the_definition() {
                 }
             };
             let (mut left, mut buffer) = (start.clone(), vec![5; steps]);
-            let answer = reference::run(&words, &facts, &given, &mut left, flow as i64, &wanted, &mut buffer);
+            let answer =
+                reference::run(&words, &facts, &given, &slots, &lengths, &mut left, flow as i64, &wanted, &mut buffer);
             assert_eq!(answer, Answer { value: terminal, count: path.len() as i64, ..Answer::default() });
             path.resize(steps, 0);
             assert_eq!((left, buffer), (states, path));
@@ -193,6 +230,7 @@ fn verdicts_runs_and_operations_by_the_definition() {
     assert!(runs > 1000 && moves > 1000, "{runs} runs, {moves} operations that went through");
     assert!(several > 100, "{several} operations with several applicable outcomes");
     assert!(blocked > 100, "{blocked} operations blocked by another entity than 0");
+    assert!(quantifiers > 1000, "{quantifiers} quantifiers");
 }
 
 /// An operation's answer and states by the definition, and S3a and S4 of what it did.
@@ -246,6 +284,7 @@ fn sizes_and_reached_states_by_the_definition() {
                 4 | 5 | 9 | 10 => &[a, b],
                 6 | 11 => &[a],
                 7 => &[b, c],
+                14 | 15 => &[b],
                 _ => &[],
             };
             sizes.push(1 + children.iter().map(|&child| sizes[child as usize]).sum::<i64>());

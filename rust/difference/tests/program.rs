@@ -117,8 +117,9 @@ fn the_document_s_sheet() {
 }
 
 #[test]
-fn the_escrow_contract() {
+fn the_examples() {
     agree(include_bytes!("../../../examples/escrow.txt"));
+    agree(include_bytes!("../../../examples/documents.txt"));
 }
 
 #[test]

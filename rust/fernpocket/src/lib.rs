@@ -11,8 +11,10 @@
 //!
 //! | Slice | What it holds | Its length, else [`Refusal::Length`] |
 //! |---|---|---|
-//! | `values` | the value of each fact; that of a fact that is not given is not read | the sheet's facts, exactly |
-//! | `given` | for each fact 1 where its value is given, 0 where it is not | the sheet's facts, exactly |
+//! | `values` | the value of each fact; that of a fact that is not given, or is a list, is not read | the sheet's facts, exactly |
+//! | `given` | for each fact 1 where its value, or list, is given, 0 where it is not | the sheet's facts, exactly |
+//! | `lists` | the elements of each fact that is a list, in the order of the facts: as many slots as its largest length, the first of them filled, the others not read | the sum of the lists' largest lengths, exactly |
+//! | `lengths` | how many elements each fact that is a list has, in the order of the facts | the sheet's lists, exactly |
 //! | `verdicts` | the verdict of each rule, 1 or 0 | the sheet's rules, exactly |
 //! | `states` | the present state of each entity | the sheet's entities, exactly |
 //! | `wanted` | for each step of the flow the outcome that is wanted of its operation; none leaves it to the states | the flow's steps, exactly |
@@ -28,7 +30,7 @@
 //!
 //! // Fact 0 is given as 1; entity 0 is in state 0; step 0 is a branch; of the operation of step 1 outcome 0 is wanted.
 //! let (mut states, mut path) = ([0], [0; 2]);
-//! let end = run(&sheet, &[1], &[1], &mut states, 0, &[None, Some(0)], &mut path)?;
+//! let end = run(&sheet, &[1], &[1], &[], &[], &mut states, 0, &[None, Some(0)], &mut path)?;
 //! assert_eq!(end, Path { terminal: Terminal::Success, length: 2 });
 //! assert_eq!((states, path), ([1], [0, 2]));
 //!
@@ -175,7 +177,8 @@ pub fn write_text(words: &[i64], text: &mut [u8]) -> Result<usize, Refusal> {
     value(raw::write_text(words, text))
 }
 
-/// Puts the defaults into the values of facts that are not given (flag 0).
+/// Puts the defaults into the values of facts that are not given (flag 0). A list has no default: it has to be given, and
+/// its value stays as it was.
 ///
 /// Refused for a sheet's refusals, [`Refusal::Length`], [`Refusal::FactValue`] and [`Refusal::FactAbsent`].
 ///
@@ -183,14 +186,20 @@ pub fn write_text(words: &[i64], text: &mut [u8]) -> Result<usize, Refusal> {
 /// use fernpocket::{assemble, example, Refusal};
 ///
 /// let mut values = [77];
-/// assemble(&example::sheet(), &mut values, &[0])?;
+/// assemble(&example::sheet(), &mut values, &[0], &[], &[])?;
 /// assert_eq!(values, [0]);
 ///
-/// assert_eq!(assemble(&example::sheet(), &mut [2], &[1]), Err(Refusal::FactValue(0)));
+/// assert_eq!(assemble(&example::sheet(), &mut [2], &[1], &[], &[]), Err(Refusal::FactValue(0)));
 /// # Ok::<(), fernpocket::Refusal>(())
 /// ```
-pub fn assemble(sheet: &[i64], values: &mut [i64], given: &[i64]) -> Result<(), Refusal> {
-    done(raw::assemble(sheet, values, given))
+pub fn assemble(
+    sheet: &[i64],
+    values: &mut [i64],
+    given: &[i64],
+    lists: &[i64],
+    lengths: &[i64],
+) -> Result<(), Refusal> {
+    done(raw::assemble(sheet, values, given, lists, lengths))
 }
 
 /// Writes each rule's verdict, 1 or 0.
@@ -208,12 +217,54 @@ pub fn assemble(sheet: &[i64], values: &mut [i64], given: &[i64]) -> Result<(), 
 ///     0, 0, 0, 0, 0, 0, 0, 0, //
 /// ];
 /// let mut out = [9];
-/// verdicts(&sheet, &[1], &[1], &mut out)?;
+/// verdicts(&sheet, &[1], &[1], &[], &[], &mut out)?;
 /// assert_eq!(out, [1]);
 /// # Ok::<(), fernpocket::Refusal>(())
 /// ```
-pub fn verdicts(sheet: &[i64], values: &[i64], given: &[i64], verdicts: &mut [i64]) -> Result<(), Refusal> {
-    done(raw::verdicts(sheet, values, given, verdicts))
+///
+/// With lists:
+///
+/// ```
+/// use fernpocket::{verdicts, Refusal};
+///
+/// // Fact 0: a list of up to three Bools; fact 1: a list of up to two Ints of 0 to 9. Rule 0: for all of fact 0, the element
+/// // is true. Rule 1: in fact 1 there exists an element above 5.
+/// let sheet = [
+///     1, 0, 2, 6, 2, 0, 0, 0, 0, 0, 0, 0, 0, 0, 0, 0, //
+///     5, 0, 1, 0, 0, 0, 0, 3, //
+///     5, 0, 9, 0, 0, 0, 1, 2, //
+///     17, 0, 0, 0, 0, 0, 0, 0, //
+///     14, 0, 0, 0, 0, 0, 0, 0, //
+///     17, 1, 0, 0, 0, 0, 0, 0, //
+///     0, 5, 0, 0, 0, 0, 0, 0, //
+///     7, 4, 2, 3, 0, 0, 0, 0, //
+///     15, 1, 4, 0, 0, 0, 0, 0, //
+///     0, 1, 0, 0, 0, 0, 0, 0, //
+///     0, 5, 0, 0, 0, 0, 0, 0, //
+/// ];
+/// let mut out = [9; 2];
+/// // True, true, and a slot that is not used; then 4 and 6.
+/// verdicts(&sheet, &[0, 0], &[1, 1], &[1, 1, 0, 4, 6], &[2, 2], &mut out)?;
+/// assert_eq!(out, [1, 1]);
+/// // Of no elements all are true, and none exists.
+/// verdicts(&sheet, &[0, 0], &[1, 1], &[0; 5], &[0, 0], &mut out)?;
+/// assert_eq!(out, [1, 0]);
+/// // 10 is no element of the second list; a list that is not given is not an empty one.
+/// let refused = verdicts(&sheet, &[0, 0], &[1, 1], &[1, 1, 0, 4, 10], &[2, 2], &mut out);
+/// assert_eq!(refused, Err(Refusal::FactValue(1)));
+/// let refused = verdicts(&sheet, &[0, 0], &[0, 1], &[0; 5], &[0, 0], &mut out);
+/// assert_eq!(refused, Err(Refusal::FactAbsent(0)));
+/// # Ok::<(), fernpocket::Refusal>(())
+/// ```
+pub fn verdicts(
+    sheet: &[i64],
+    values: &[i64],
+    given: &[i64],
+    lists: &[i64],
+    lengths: &[i64],
+    verdicts: &mut [i64],
+) -> Result<(), Refusal> {
+    done(raw::verdicts(sheet, values, given, lists, lengths, verdicts))
 }
 
 /// Performs an operation on the states and answers the outcome: the wanted one, or where none is wanted the only one that
@@ -229,11 +280,11 @@ pub fn verdicts(sheet: &[i64], values: &[i64], given: &[i64], verdicts: &mut [i6
 /// let sheet = example::sheet();
 /// let mut states = [0];
 /// // Both outcomes apply to state 0.
-/// assert_eq!(operate(&sheet, &[1], &[1], &mut states, 0, 0, None), Err(Refusal::ManyOutcomes));
-/// assert_eq!(operate(&sheet, &[1], &[1], &mut states, 0, 0, Some(1)), Ok(1));
+/// assert_eq!(operate(&sheet, &[1], &[1], &[], &[], &mut states, 0, 0, None), Err(Refusal::ManyOutcomes));
+/// assert_eq!(operate(&sheet, &[1], &[1], &[], &[], &mut states, 0, 0, Some(1)), Ok(1));
 /// assert_eq!(states, [2]);
 /// // Neither applies to state 2: entity 0 is in the way.
-/// let blocked = operate(&sheet, &[1], &[1], &mut states, 0, 0, Some(1)).unwrap_err();
+/// let blocked = operate(&sheet, &[1], &[1], &[], &[], &mut states, 0, 0, Some(1)).unwrap_err();
 /// assert_eq!(blocked, Refusal::NoOutcome { entity: 0, wanted: Some(1) });
 /// assert_eq!(blocked.to_string(), "refused 11 at 0: entity 0 is in no state that outcome 1 starts from");
 /// # Ok::<(), fernpocket::Refusal>(())
@@ -242,12 +293,24 @@ pub fn operate(
     sheet: &[i64],
     values: &[i64],
     given: &[i64],
+    lists: &[i64],
+    lengths: &[i64],
     states: &mut [i64],
     persona: usize,
     operation: usize,
     wanted: Option<usize>,
 ) -> Result<usize, Refusal> {
-    let answer = raw::operate(sheet, values, given, states, number(persona), number(operation), wanted_word(wanted));
+    let answer = raw::operate(
+        sheet,
+        values,
+        given,
+        lists,
+        lengths,
+        states,
+        number(persona),
+        number(operation),
+        wanted_word(wanted),
+    );
     value(answer).map_err(|_| refusal(answer, wanted))
 }
 
@@ -264,7 +327,7 @@ pub fn operate(
 /// use fernpocket::{example, run, Path, Terminal};
 ///
 /// let (mut states, mut path) = ([1], [0; 2]);
-/// let end = run(&example::sheet(), &[1], &[1], &mut states, 0, &[None, None], &mut path)?;
+/// let end = run(&example::sheet(), &[1], &[1], &[], &[], &mut states, 0, &[None, None], &mut path)?;
 /// assert_eq!(end, Path { terminal: Terminal::Escalation, length: 2 });
 /// assert_eq!((states, path), ([1], [0, 4]));
 /// # Ok::<(), fernpocket::Refusal>(())
@@ -273,6 +336,8 @@ pub fn run(
     sheet: &[i64],
     values: &[i64],
     given: &[i64],
+    lists: &[i64],
+    lengths: &[i64],
     states: &mut [i64],
     flow: usize,
     wanted: &[Option<usize>],
@@ -282,7 +347,7 @@ pub fn run(
     let mut words = [-1; 257];
     words.iter_mut().zip(wanted).for_each(|(word, &wanted)| *word = wanted_word(wanted));
     let count = wanted.len().min(words.len());
-    path_of(raw::run(sheet, values, given, states, number(flow), &words[..count], path))
+    path_of(raw::run(sheet, values, given, lists, lengths, states, number(flow), &words[..count], path))
 }
 
 /// S6: puts a flow's first path in the buffer, whatever that holds.

@@ -24,20 +24,24 @@ mod linked {
         pub fn fernpocket_write_text(words: *const i64, words_len: usize, text: *mut u8, text_len: usize) -> Answer;
         pub fn fernpocket_assemble(
             sheet: *const i64, sheet_len: usize, values: *mut i64, values_len: usize,
-            given: *const i64, given_len: usize,
+            given: *const i64, given_len: usize, lists: *const i64, lists_len: usize,
+            lengths: *const i64, lengths_len: usize,
         ) -> Answer;
         pub fn fernpocket_verdicts(
             sheet: *const i64, sheet_len: usize, values: *const i64, values_len: usize,
-            given: *const i64, given_len: usize, verdicts: *mut i64, verdicts_len: usize,
+            given: *const i64, given_len: usize, lists: *const i64, lists_len: usize,
+            lengths: *const i64, lengths_len: usize, verdicts: *mut i64, verdicts_len: usize,
         ) -> Answer;
         pub fn fernpocket_operate(
             sheet: *const i64, sheet_len: usize, values: *const i64, values_len: usize,
-            given: *const i64, given_len: usize, states: *mut i64, states_len: usize,
+            given: *const i64, given_len: usize, lists: *const i64, lists_len: usize,
+            lengths: *const i64, lengths_len: usize, states: *mut i64, states_len: usize,
             persona: i64, operation: i64, wanted: i64,
         ) -> Answer;
         pub fn fernpocket_run(
             sheet: *const i64, sheet_len: usize, values: *const i64, values_len: usize,
-            given: *const i64, given_len: usize, states: *mut i64, states_len: usize,
+            given: *const i64, given_len: usize, lists: *const i64, lists_len: usize,
+            lengths: *const i64, lengths_len: usize, states: *mut i64, states_len: usize,
             flow: i64, wanted: *const i64, wanted_len: usize, path: *mut u16, path_len: usize,
         ) -> Answer;
         pub fn fernpocket_first(
@@ -87,7 +91,7 @@ pub fn write_text(words: &[i64], text: &mut [u8]) -> Answer {
 }
 
 /// See [`crate::assemble`].
-pub fn assemble(sheet: &[i64], values: &mut [i64], given: &[i64]) -> Answer {
+pub fn assemble(sheet: &[i64], values: &mut [i64], given: &[i64], lists: &[i64], lengths: &[i64]) -> Answer {
     call!(
         fernpocket_assemble,
         sheet.as_ptr(),
@@ -95,12 +99,23 @@ pub fn assemble(sheet: &[i64], values: &mut [i64], given: &[i64]) -> Answer {
         values.as_mut_ptr(),
         values.len(),
         given.as_ptr(),
-        given.len()
+        given.len(),
+        lists.as_ptr(),
+        lists.len(),
+        lengths.as_ptr(),
+        lengths.len()
     )
 }
 
 /// See [`crate::verdicts`].
-pub fn verdicts(sheet: &[i64], values: &[i64], given: &[i64], verdicts: &mut [i64]) -> Answer {
+pub fn verdicts(
+    sheet: &[i64],
+    values: &[i64],
+    given: &[i64],
+    lists: &[i64],
+    lengths: &[i64],
+    verdicts: &mut [i64],
+) -> Answer {
     call!(
         fernpocket_verdicts,
         sheet.as_ptr(),
@@ -109,6 +124,10 @@ pub fn verdicts(sheet: &[i64], values: &[i64], given: &[i64], verdicts: &mut [i6
         values.len(),
         given.as_ptr(),
         given.len(),
+        lists.as_ptr(),
+        lists.len(),
+        lengths.as_ptr(),
+        lengths.len(),
         verdicts.as_mut_ptr(),
         verdicts.len()
     )
@@ -119,6 +138,8 @@ pub fn operate(
     sheet: &[i64],
     values: &[i64],
     given: &[i64],
+    lists: &[i64],
+    lengths: &[i64],
     states: &mut [i64],
     persona: i64,
     operation: i64,
@@ -132,6 +153,10 @@ pub fn operate(
         values.len(),
         given.as_ptr(),
         given.len(),
+        lists.as_ptr(),
+        lists.len(),
+        lengths.as_ptr(),
+        lengths.len(),
         states.as_mut_ptr(),
         states.len(),
         persona,
@@ -145,6 +170,8 @@ pub fn run(
     sheet: &[i64],
     values: &[i64],
     given: &[i64],
+    lists: &[i64],
+    lengths: &[i64],
     states: &mut [i64],
     flow: i64,
     wanted: &[i64],
@@ -158,6 +185,10 @@ pub fn run(
         values.len(),
         given.as_ptr(),
         given.len(),
+        lists.as_ptr(),
+        lists.len(),
+        lengths.as_ptr(),
+        lengths.len(),
         states.as_mut_ptr(),
         states.len(),
         flow,

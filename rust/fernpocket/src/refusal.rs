@@ -26,13 +26,14 @@ pub enum Refusal {
     Group,
     /// 3: this record is bad, and none before it is. In the sheet's text it is line place + 3, counted from 1.
     Record(usize),
-    /// 4: a slice has the wrong length.
+    /// 4: a slice has the wrong length; of the lists, the slots or the lengths are not as many as the sheet's facts want.
     Length,
     /// 5: there is no such persona, operation, outcome, flow, entity, state, rule or node.
     Missing,
-    /// 6: this fact's given flag is not 0 or 1, or it is given with a value outside its min..max.
+    /// 6: this fact's given flag is not 0 or 1, or it is given with a value outside its min..max. A list: it is given with a
+    /// length outside 0 to its largest, or with an element outside min..max.
     FactValue(usize),
-    /// 7: this fact is not given and has no default.
+    /// 7: this fact is not given and has no default. A list never has one.
     FactAbsent(usize),
     /// 8: the state lent for this entity is not one of its states.
     State(usize),
@@ -130,7 +131,7 @@ impl Refusal {
             Refusal::Length => "a slice has the wrong length",
             Refusal::Missing => "there is no such persona, operation, outcome, flow, entity, state, rule or node",
             Refusal::FactValue(_) => {
-                "this fact is given wrongly: its flag is not 0 or 1, or its value is outside min..max"
+                "this fact is given wrongly: its flag, value, length or an element is out of range"
             }
             Refusal::FactAbsent(_) => "this fact is not given and has no default",
             Refusal::State(_) => "the state of this entity is not one of its states",

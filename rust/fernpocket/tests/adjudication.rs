@@ -26,8 +26,9 @@ fn sheet() -> Vec<i64> {
 #[test]
 fn the_adjudicator_says_no() {
     let (sheet, eligible, given) = (sheet(), [1], [1]);
-    let decide =
-        |states: &mut [i64], persona, wanted| operate(&sheet, &eligible, &given, states, persona, DECIDE_CLAIM, wanted);
+    let decide = |states: &mut [i64], persona, wanted| {
+        operate(&sheet, &eligible, &given, &[], &[], states, persona, DECIDE_CLAIM, wanted)
+    };
     let mut states = [IN_REVIEW];
     // Both outcomes start from review: nobody but the caller can say which.
     assert_eq!(decide(&mut states, ADJUDICATOR, None), Err(Refusal::ManyOutcomes));
@@ -49,7 +50,7 @@ fn and_so_in_a_run() {
     let (sheet, mut path) = (sheet(), [9; 3]);
     let mut decided = |wanted: &[Option<usize>]| {
         let mut states = [IN_REVIEW];
-        let end = run(&sheet, &[1], &[1], &mut states, ADJUDICATE, wanted, &mut path);
+        let end = run(&sheet, &[1], &[1], &[], &[], &mut states, ADJUDICATE, wanted, &mut path);
         (end, states)
     };
     let ends = |terminal| Ok(Path { terminal, length: 1 });

@@ -77,12 +77,17 @@ fn the_desk() {
     };
     let (status, listed, errors) = desk.on(&escrow, &[]);
     assert_eq!((status, &errors[..]), (0, ""));
-    assert!(listed.starts_with("accepted: 800 words\nflow 0, success: 0 2 4\nflow 0, failure: 0 2 5 8\n"), "{listed}");
+    assert!(listed.starts_with("accepted: 816 words\nflow 0, success: 0 2 4\nflow 0, failure: 0 2 5 8\n"), "{listed}");
     assert_eq!(listed.lines().count(), 10, "{listed}");
 
     // 5,000.00, delivery confirmed, line items valid: the escrow agent may release it.
     answers("operate 3 0 0=500000 1=1 2=1", "outcome 0\nstates: 1 0\n");
     answers("operate 3 0 0 0=500000 1=1 2=1", "outcome 0\nstates: 1 0\n");
+    // Three line items; none, which is a list all the same; as many as there may be.
+    answers("operate 3 0 0=500000 1=1 2=1,1,1", "outcome 0\nstates: 1 0\n");
+    answers("operate 3 0 2= 0=500000 1=1", "outcome 0\nstates: 1 0\n");
+    let items = |count: usize| format!("operate 3 0 0=500000 1=1 2={}", vec!["1"; count].join(","));
+    answers(&items(100), "outcome 0\nstates: 1 0\n");
     answers("run 0 0=500000 1=1 2=1", "flow 0, success: 0 2 4\nstates: 1 1\n");
     answers("run 0 0:0 2:0 0=500000 1=1 2=1", "flow 0, success: 0 2 4\nstates: 1 1\n");
 
@@ -96,6 +101,13 @@ fn the_desk() {
     refused(&escrow, "operate 4 0 0=500000 1=1 2=1", "operate", Refusal::Missing);
     refused(&escrow, "operate 3 0 0=500000 1=3 2=1", "operate", Refusal::FactValue(1));
     refused(&escrow, "operate 3 0 0=500000 1=1", "operate", Refusal::FactAbsent(2));
+    // A line item that is not valid, wherever it stands; elements that are no Bools; a list that is too long.
+    refused(&escrow, "operate 3 0 0=500000 1=1 2=0,1,1", "operate", Refusal::Precondition);
+    refused(&escrow, "operate 3 0 0=500000 1=1 2=1,1,0", "operate", Refusal::Precondition);
+    refused(&escrow, "operate 3 0 0=500000 1=1 2=1,1,2", "operate", Refusal::FactValue(2));
+    refused(&escrow, "operate 3 0 0=500000 1=1 2=-1", "operate", Refusal::FactValue(2));
+    refused(&escrow, &items(101), "operate", Refusal::FactValue(2));
+    refused(&escrow, &items(1000), "operate", Refusal::FactValue(2));
     // The delivery record is still pending: there is no confirmation to revert.
     refused(&escrow, "operate 3 6 0=500000 1=1 2=1", "operate", Refusal::NoOutcome { entity: 1, wanted: None });
     refused(&escrow, "operate 3 6 0 0=500000 1=1 2=1", "operate", Refusal::NoOutcome { entity: 1, wanted: Some(0) });
@@ -117,7 +129,15 @@ fn the_desk() {
     bad("operate|escrow_agent|release_escrow", &number("PERSONA", "escrow_agent"));
     bad("operate|3|release_escrow", &number("OPERATION", "release_escrow"));
     bad("run|standard_release", &number("FLOW", "standard_release"));
-    bad("operate|3|0|0=500000|1=1|2=zz", &number("VALUE", "zz"));
+    bad("operate|3|0|0=500000|1=zz|2=1", &number("VALUE", "zz"));
+    bad("operate|3|0|0=500000|1=1,1|2=1", &number("VALUE", "1,1"));
+    for (word, element) in
+        [("zz", "zz"), (",", ""), ("1,", ""), (",1", ""), ("1,,1", ""), ("1, 1", " 1"), ("1;1", "1;1")]
+    {
+        bad(&format!("operate|3|0|0=500000|1=1|2={word}"), &number("ELEMENT", element));
+    }
+    bad("operate|3|0|0=500000|1=1|2=1,1000000001", &number("ELEMENT", "1000000001"));
+    bad("operate|3|0|2=1|2=1", "desk: fact 2 is given twice\n");
     bad("operate|3|0|escrow_amount=500000|1=1|2=1", &number("FACT", "escrow_amount"));
     for word in ["", " 3", "3 ", "3x", "0x3", "+3", "-", "-1", "3.0", "1e0", "9223372036854775808"] {
         bad(&format!("operate|{word}|0|0=500000|1=1|2=1"), &number("PERSONA", word));
@@ -141,6 +161,7 @@ fn the_desk() {
     format_page(&desk);
     example_page(&desk, "escrow");
     example_page(&desk, "adjudication");
+    example_page(&desk, "documents");
 
     let long = "0\t0\t0\t0\t0\t0\t0\t0\n".repeat(30_000);
     assert_eq!(desk.on(&long, &[]).0, 2);

@@ -7,6 +7,12 @@ use std::ops::Deref;
 /// M, the largest size of a number.
 pub const M: i64 = 1_000_000_000;
 
+/// The type of a fact that is a list.
+pub const LIST: i64 = 5;
+
+/// The largest length that a list may have.
+pub const MOST_LENGTH: i64 = 100;
+
 /// How many seconds each unit of a duration has: days, hours, minutes, seconds.
 const SECONDS: [i64; 4] = [24 * 60 * 60, 60 * 60, 60, 1];
 
@@ -50,9 +56,30 @@ struct Known {
     kind: Type,
     low: i32,
     high: i32,
-    /// One more than the largest rule cited in the node's tree, 0 where none is.
-    cited: u8,
+    cites: Cites,
     named: bool,
+}
+
+/// What a node's tree cites.
+#[derive(Clone, Copy, Default)]
+struct Cites {
+    /// One more than the largest rule cited, 0 where none is.
+    rules: u8,
+    /// Is a quantifier in it?
+    quantifier: bool,
+    /// The lists of which an element is cited outside of every quantifier over that list: bit f is fact f.
+    open: u128,
+}
+
+impl Cites {
+    /// What two trees cite.
+    fn and(self, other: Cites) -> Cites {
+        Cites {
+            rules: self.rules.max(other.rules),
+            quantifier: self.quantifier || other.quantifier,
+            open: self.open | other.open,
+        }
+    }
 }
 
 /// An accepted sheet.
@@ -129,9 +156,10 @@ fn unused(record: &Record, from: usize) -> bool {
 fn facts(table: &[Record]) -> Judged {
     let mut max_of_set = [None; 128];
     each(table, |_, record| {
-        let [kind, min, max, has_default, default, set, ..] = *record;
+        let [kind, min, max, has_default, default, set, element, largest] = *record;
         let in_order = -M <= min && min <= max && max <= M;
-        let bounds = match kind {
+        // A list has min, max and set as a fact of its elements' type.
+        let bounds = match if kind == LIST { element } else { kind } {
             0 => min == 0 && max == 1 && set == 0,
             1 => in_order && set == 0,
             2 => {
@@ -148,7 +176,11 @@ fn facts(table: &[Record]) -> Judged {
             1 => min <= default && default <= max,
             _ => false,
         };
-        bounds && default_good && unused(record, 6)
+        let rest_good = match kind {
+            LIST => (0..=2).contains(&element) && (0..=MOST_LENGTH).contains(&largest) && has_default == 0,
+            _ => unused(record, 6),
+        };
+        bounds && default_good && rest_good
     })
 }
 
@@ -166,15 +198,17 @@ fn nodes(tables: &Tables, known: &mut Vec<Known>) -> Judged {
 fn node(tables: &Tables, known: &mut [Known], record: &Record) -> Option<Known> {
     let [kind, a, b, c, ..] = *record;
     let words = match kind {
-        0 | 1 | 3 | 8 | 11 => 1,
-        2 | 4 | 5 | 6 | 9 | 10 | 12 | 13 => 2,
+        0 | 1 | 3 | 8 | 11 | 16 | 17 => 1,
+        2 | 4 | 5 | 6 | 9 | 10 | 12 | 13 | 14 | 15 => 2,
         7 => 3,
         _ => return None,
     };
     if !unused(record, 1 + words) {
         return None;
     }
-    let leaf = |kind, low, high| known_node(kind, low, high, 0);
+    let leaf = |kind, low, high| known_node(kind, low, high, Cites::default());
+    let fact = |word| below(word, tables.facts.len()).map(|fact| (fact, tables.facts[fact]));
+    let list = |word| fact(word).filter(|(_, record)| record[0] == LIST);
     match kind {
         0 => leaf(Type::INT, a, a),
         1 => {
@@ -186,7 +220,7 @@ fn node(tables: &Tables, known: &mut [Known], record: &Record) -> Option<Known> 
             leaf(Type { number: Type::ENUM, of: below(b, 128)? as u8 }, a, a)
         }
         3 => {
-            let [kind, min, max, _, _, set, ..] = tables.facts[below(a, tables.facts.len())?];
+            let (_, [kind, min, max, _, _, set, ..]) = fact(a).filter(|(_, record)| record[0] != LIST)?;
             leaf(Type { number: kind as u8, of: set as u8 }, min, max)
         }
         4 | 5 => {
@@ -198,7 +232,7 @@ fn node(tables: &Tables, known: &mut [Known], record: &Record) -> Option<Known> 
                 4 => (x.low as i64 + y.low as i64, x.high as i64 + y.high as i64),
                 _ => (x.low as i64 - y.high as i64, x.high as i64 - y.low as i64),
             };
-            known_node(x.kind, low, high, x.cited.max(y.cited))
+            known_node(x.kind, low, high, x.cites.and(y.cites))
         }
         6 => {
             let a = name(known, a, Type::INT)?;
@@ -207,7 +241,7 @@ fn node(tables: &Tables, known: &mut [Known], record: &Record) -> Option<Known> 
             }
             // A negative literal turns the ends.
             let (low, high) = if b < 0 { (a.high, a.low) } else { (a.low, a.high) };
-            known_node(Type::INT, low as i64 * b, high as i64 * b, a.cited)
+            known_node(Type::INT, low as i64 * b, high as i64 * b, a.cites)
         }
         7 => {
             let operator = below(a, 6)?;
@@ -216,11 +250,11 @@ fn node(tables: &Tables, known: &mut [Known], record: &Record) -> Option<Known> 
                 return None;
             }
             let (some, some_not) = comparison(operator, &x, &y);
-            known_node(Type::BOOL, !some_not as i64, some as i64, x.cited.max(y.cited))
+            known_node(Type::BOOL, !some_not as i64, some as i64, x.cites.and(y.cites))
         }
         8 => {
             let rule = below(a, tables.rules.len())?;
-            known_node(Type::BOOL, 0, 1, rule as u8 + 1)
+            known_node(Type::BOOL, 0, 1, Cites { rules: rule as u8 + 1, ..Cites::default() })
         }
         9 | 10 => {
             let x = name(known, a, Type::BOOL)?;
@@ -229,21 +263,40 @@ fn node(tables: &Tables, known: &mut [Known], record: &Record) -> Option<Known> 
                 9 => (x.low.min(y.low), x.high.min(y.high)),
                 _ => (x.low.max(y.low), x.high.max(y.high)),
             };
-            known_node(Type::BOOL, low as i64, high as i64, x.cited.max(y.cited))
+            known_node(Type::BOOL, low as i64, high as i64, x.cites.and(y.cites))
         }
         12 => leaf(Type { number: Type::MONEY, of: below(b, 128)? as u8 }, a, a),
         13 => leaf(Type { number: Type::DURATION, of: below(b, 4)? as u8 }, a, a),
+        14 | 15 => {
+            let (fact, _) = list(a)?;
+            let body = name(known, b, Type::BOOL)?;
+            if body.cites.quantifier {
+                return None;
+            }
+            // Within the body the elements of this list are at hand.
+            let cites = Cites { quantifier: true, open: body.cites.open & !(1 << fact), ..body.cites };
+            known_node(Type::BOOL, 0, 1, cites)
+        }
+        16 => {
+            let (_, [.., largest]) = list(a)?;
+            leaf(Type::INT, 0, largest)
+        }
+        17 => {
+            let (fact, [_, min, max, _, _, set, element, _]) = list(a)?;
+            let kind = Type { number: element as u8, of: set as u8 };
+            known_node(kind, min, max, Cites { open: 1 << fact, ..Cites::default() })
+        }
         _ => {
             let x = name(known, a, Type::BOOL)?;
-            known_node(Type::BOOL, 1 - x.high as i64, 1 - x.low as i64, x.cited)
+            known_node(Type::BOOL, 1 - x.high as i64, 1 - x.low as i64, x.cites)
         }
     }
 }
 
 /// A node with this range, unless it leaves −M..M.
-fn known_node(kind: Type, low: i64, high: i64, cited: u8) -> Option<Known> {
+fn known_node(kind: Type, low: i64, high: i64, cites: Cites) -> Option<Known> {
     let fits = -M <= low && high <= M;
-    fits.then_some(Known { kind, low: low as i32, high: high as i32, cited, named: false })
+    fits.then_some(Known { kind, low: low as i32, high: high as i32, cites, named: false })
 }
 
 /// The node that a word names. None where there is no such node, or it was named before.
@@ -259,6 +312,12 @@ fn name(known: &mut [Known], word: i64, kind: Type) -> Option<Known> {
     name_any(known, word).filter(|node| node.kind == kind)
 }
 
+/// The Bool node that a rule, an operation or a branch names: every element that its tree cites is in a quantifier over
+/// the element's list.
+fn root(known: &mut [Known], word: i64) -> Option<Known> {
+    name(known, word, Type::BOOL).filter(|node| node.cites.open == 0)
+}
+
 /// The two nodes that words name, two durations taken to the smaller of their units. None also where the types do not go
 /// together, or a range leaves −M..M.
 fn name_two(known: &mut [Known], a: i64, b: i64) -> Option<(Known, Known)> {
@@ -270,7 +329,7 @@ fn name_two(known: &mut [Known], a: i64, b: i64) -> Option<(Known, Known)> {
     let (times_x, times_y) = x.kind.factors(y.kind)?;
     let kind = if times_x == 1 { x.kind } else { y.kind };
     let taken =
-        |node: Known, times: i64| known_node(kind, node.low as i64 * times, node.high as i64 * times, node.cited);
+        |node: Known, times: i64| known_node(kind, node.low as i64 * times, node.high as i64 * times, node.cites);
     Some((taken(x, times_x)?, taken(y, times_y)?))
 }
 
@@ -296,7 +355,7 @@ fn rules(table: &[Record], known: &mut [Known]) -> Judged {
         let cites_lower = |cited: usize| cited <= rule && (cited == 0 || table[cited - 1][0] < stratum);
         (0..=15).contains(&stratum)
             && !falls
-            && name(known, when, Type::BOOL).is_some_and(|node| cites_lower(node.cited as usize))
+            && root(known, when).is_some_and(|node| cites_lower(node.cites.rules as usize))
             && unused(record, 2)
     })
 }
@@ -339,7 +398,7 @@ fn operations(tables: &Tables, known: &mut [Known]) -> Judged {
         expected += count;
         mask != 0
             && below(mask, 1 << tables.personas).is_some()
-            && name(known, precondition, Type::BOOL).is_some()
+            && root(known, precondition).is_some()
             && in_order
             && (1..=8).contains(&outcomes)
             && unused(record, 5)
@@ -401,7 +460,7 @@ fn steps(tables: &Tables, known: &mut [Known]) -> Judged {
                     .is_some_and(|operation| count == tables.operations[operation][4] + 1)
                     && below(persona, tables.personas).is_some()
             }
-            1 => name(known, what, Type::BOOL).is_some() && persona == 0 && count == 2,
+            1 => root(known, what).is_some() && persona == 0 && count == 2,
             _ => false,
         };
         good && in_order && unused(record, 5)

@@ -15,9 +15,10 @@ mod text;
 mod tree;
 
 use check::{check_sheet, Sheet};
+use facts::Lent;
 use tables::below;
 
-pub use check::M;
+pub use check::{M, MOST_LENGTH};
 pub use tables::{HEADER, LIMITS, RECORD};
 
 /// The four numbers of an answer.
@@ -77,9 +78,9 @@ fn ending(call: impl FnOnce() -> Result<Ending, Refused>) -> Answer {
     counted(|| call().map(|end| (end.terminal, end.length)))
 }
 
-/// Refusal 4 unless every given length is the wanted one.
-fn lengths(pairs: &[(usize, usize)]) -> Result<(), Refused> {
-    if pairs.iter().all(|(given, wanted)| given == wanted) {
+/// Refusal 4 unless a slice's length is the wanted one.
+fn judge_length(length: usize, wanted: usize) -> Result<(), Refused> {
+    if length == wanted {
         Ok(())
     } else {
         Err(Refused::plain(4))
@@ -116,25 +117,34 @@ pub fn write_text(words: &[i64], text: &mut [u8]) -> Answer {
     value(|| text::write(words, text))
 }
 
-/// Fact assembly: the defaults of facts not given go into the values.
-pub fn assemble(sheet: &[i64], values: &mut [i64], given: &[i64]) -> Answer {
+/// Fact assembly: the defaults of facts not given go into the values. The value word of a list stays.
+pub fn assemble(sheet: &[i64], values: &mut [i64], given: &[i64], lists: &[i64], lengths: &[i64]) -> Answer {
     plain(|| {
         let sheet = check_sheet(sheet)?;
-        let facts = sheet.facts.len();
-        lengths(&[(values.len(), facts), (given.len(), facts)])?;
-        let taken = facts::take(&sheet, values, given)?;
-        values.copy_from_slice(&taken[..facts]);
+        let lent = Lent { values, given, lists, lengths };
+        facts::judge_lengths(&sheet, lent)?;
+        let taken = facts::take(&sheet, lent)?;
+        values.copy_from_slice(&taken.values[..sheet.facts.len()]);
         Ok(())
     })
 }
 
 /// The verdict of each rule.
-pub fn verdicts(sheet: &[i64], values: &[i64], given: &[i64], verdicts: &mut [i64]) -> Answer {
+pub fn verdicts(
+    sheet: &[i64],
+    values: &[i64],
+    given: &[i64],
+    lists: &[i64],
+    lengths: &[i64],
+    verdicts: &mut [i64],
+) -> Answer {
     plain(|| {
         let sheet = check_sheet(sheet)?;
-        let (facts, rules) = (sheet.facts.len(), sheet.rules.len());
-        lengths(&[(values.len(), facts), (given.len(), facts), (verdicts.len(), rules)])?;
-        let taken = facts::take(&sheet, values, given)?;
+        let lent = Lent { values, given, lists, lengths };
+        let rules = sheet.rules.len();
+        facts::judge_lengths(&sheet, lent)?;
+        judge_length(verdicts.len(), rules)?;
+        let taken = facts::take(&sheet, lent)?;
         let known = tree::World::new(&sheet, &taken);
         verdicts.copy_from_slice(&known.verdicts[..rules]);
         Ok(())
@@ -146,6 +156,8 @@ pub fn operate(
     sheet: &[i64],
     values: &[i64],
     given: &[i64],
+    lists: &[i64],
+    lengths: &[i64],
     states: &mut [i64],
     persona: i64,
     operation: i64,
@@ -153,12 +165,13 @@ pub fn operate(
 ) -> Answer {
     value(|| {
         let sheet = check_sheet(sheet)?;
-        let (facts, entities) = (sheet.facts.len(), sheet.entities.len());
-        lengths(&[(values.len(), facts), (given.len(), facts), (states.len(), entities)])?;
+        let lent = Lent { values, given, lists, lengths };
+        facts::judge_lengths(&sheet, lent)?;
+        judge_length(states.len(), sheet.entities.len())?;
         let persona = exists(persona, sheet.personas)?;
         let operation = exists(operation, sheet.operations.len())?;
         let wanted = operation::wanted(&sheet, operation, wanted)?;
-        let taken = facts::take(&sheet, values, given)?;
+        let taken = facts::take(&sheet, lent)?;
         operation::judge_states(&sheet, states)?;
         if !operation::permits(&sheet, operation, persona) {
             return Err(Refused::plain(9));
@@ -176,6 +189,8 @@ pub fn run(
     sheet: &[i64],
     values: &[i64],
     given: &[i64],
+    lists: &[i64],
+    lengths: &[i64],
     states: &mut [i64],
     flow: i64,
     wanted: &[i64],
@@ -183,12 +198,13 @@ pub fn run(
 ) -> Answer {
     ending(|| {
         let sheet = check_sheet(sheet)?;
-        let (facts, entities) = (sheet.facts.len(), sheet.entities.len());
-        lengths(&[(values.len(), facts), (given.len(), facts), (states.len(), entities)])?;
+        let lent = Lent { values, given, lists, lengths };
+        facts::judge_lengths(&sheet, lent)?;
+        judge_length(states.len(), sheet.entities.len())?;
         let flow = flow_and_buffer(&sheet, flow, path.len())?;
-        lengths(&[(wanted.len(), sheet.group_of_flow(flow).len())])?;
+        judge_length(wanted.len(), sheet.group_of_flow(flow).len())?;
         let wanted = flow::wanted(&sheet, flow, wanted)?;
-        let taken = facts::take(&sheet, values, given)?;
+        let taken = facts::take(&sheet, lent)?;
         operation::judge_states(&sheet, states)?;
         let known = tree::World::new(&sheet, &taken);
         Ok(flow::run(&sheet, &known, flow, &wanted, states, path))

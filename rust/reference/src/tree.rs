@@ -1,17 +1,18 @@
 //! Predicate trees: their values over facts and verdicts, and their sizes.
 
 use crate::check::Sheet;
+use crate::facts::Taken;
 
 /// The facts taken, and the verdicts worked out from them.
 pub struct World<'a> {
     sheet: &'a Sheet<'a>,
-    facts: &'a [i64; 128],
+    facts: &'a Taken<'a>,
     pub verdicts: [i64; 128],
 }
 
 impl<'a> World<'a> {
     /// Works out the verdicts rule by rule. A rule cites only rules before it.
-    pub fn new(sheet: &'a Sheet<'a>, facts: &'a [i64; 128]) -> Self {
+    pub fn new(sheet: &'a Sheet<'a>, facts: &'a Taken<'a>) -> Self {
         let mut world = World { sheet, facts, verdicts: [0; 128] };
         for (rule, record) in sheet.rules.iter().enumerate() {
             world.verdicts[rule] = world.holds(record[1] as usize) as i64;
@@ -19,40 +20,47 @@ impl<'a> World<'a> {
         world
     }
 
-    /// Is this Bool node true?
+    /// Is this Bool node, the root of a tree, true?
     pub fn holds(&self, node: usize) -> bool {
-        self.value(node as i64) == 1
+        // No element is cited outside of a quantifier.
+        self.value(node as i64, 0) == 1
     }
 
-    fn value(&self, node: i64) -> i64 {
+    /// The value of a node, for this element of the list that the quantifier around it is over.
+    fn value(&self, node: i64, element: i64) -> i64 {
         let [kind, a, b, c, ..] = self.sheet.nodes[node as usize];
+        let elements = |fact: i64| self.facts.elements[fact as usize].iter();
         match kind {
             0..=2 | 12 | 13 => a,
-            3 => self.facts[a as usize],
+            3 => self.facts.values[a as usize],
             4 => {
-                let (x, y) = self.two(a, b);
+                let (x, y) = self.two(a, b, element);
                 x + y
             }
             5 => {
-                let (x, y) = self.two(a, b);
+                let (x, y) = self.two(a, b, element);
                 x - y
             }
-            6 => self.value(a) * b,
+            6 => self.value(a, element) * b,
             7 => {
-                let (x, y) = self.two(b, c);
+                let (x, y) = self.two(b, c, element);
                 compare(a, x, y) as i64
             }
             8 => self.verdicts[a as usize],
-            9 => (self.value(a) == 1 && self.value(b) == 1) as i64,
-            10 => (self.value(a) == 1 || self.value(b) == 1) as i64,
-            _ => 1 - self.value(a),
+            9 => (self.value(a, element) == 1 && self.value(b, element) == 1) as i64,
+            10 => (self.value(a, element) == 1 || self.value(b, element) == 1) as i64,
+            14 => elements(a).all(|&element| self.value(b, element) == 1) as i64,
+            15 => elements(a).any(|&element| self.value(b, element) == 1) as i64,
+            16 => elements(a).len() as i64,
+            17 => element,
+            _ => 1 - self.value(a, element),
         }
     }
 
     /// The values of two nodes, two durations in the smaller of their units.
-    fn two(&self, a: i64, b: i64) -> (i64, i64) {
+    fn two(&self, a: i64, b: i64, element: i64) -> (i64, i64) {
         let (x, y) = self.sheet.factors(a as usize, b as usize);
-        (self.value(a) * x, self.value(b) * y)
+        (self.value(a, element) * x, self.value(b, element) * y)
     }
 }
 
@@ -75,6 +83,7 @@ pub fn size(sheet: &Sheet, node: usize) -> usize {
         4 | 5 | 9 | 10 => under(a) + under(b),
         6 | 11 => under(a),
         7 => under(b) + under(c),
+        14 | 15 => under(b),
         _ => 0,
     }
 }

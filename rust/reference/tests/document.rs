@@ -1,4 +1,4 @@
-//! 01's whole sheet, its proved cases P1 to P10, and hand cases.
+//! 01's whole sheet, its proved cases P1 to P10, and hand cases of 01 and 02.
 
 use reference::*;
 
@@ -101,7 +101,7 @@ fn p2_to_p4_runs() {
     {
         let mut states = [state];
         let mut buffer = [7; 3];
-        assert_eq!(run(&sheet, &[1], &[given], &mut states, 0, &[-1, 0], &mut buffer), answer);
+        assert_eq!(run(&sheet, &[1], &[given], &[], &[], &mut states, 0, &[-1, 0], &mut buffer), answer);
         assert_eq!((buffer, states), (path, [after]));
     }
 }
@@ -132,11 +132,11 @@ fn p9_ranges() {
 #[test]
 fn p10_given_value() {
     let (sheet, mut states, mut path) = (whole(), [0], [5, 5]);
-    assert_eq!(run(&sheet, &[2], &[1], &mut states, 0, &[-1, -1], &mut path), refused(6, 0));
+    assert_eq!(run(&sheet, &[2], &[1], &[], &[], &mut states, 0, &[-1, -1], &mut path), refused(6, 0));
     assert_eq!((states, path), ([0], [5, 5]));
-    assert_eq!(assemble(&sheet, &mut [2], &[1]), refused(6, 0));
-    assert_eq!(verdicts(&sheet, &[2], &[1], &mut []), refused(6, 0));
-    assert_eq!(operate(&sheet, &[2], &[1], &mut states, 0, 0, -1), refused(6, 0));
+    assert_eq!(assemble(&sheet, &mut [2], &[1], &[], &[]), refused(6, 0));
+    assert_eq!(verdicts(&sheet, &[2], &[1], &[], &[], &mut []), refused(6, 0));
+    assert_eq!(operate(&sheet, &[2], &[1], &[], &[], &mut states, 0, 0, -1), refused(6, 0));
 }
 
 #[test]
@@ -219,7 +219,7 @@ fn fact_records() {
     assert!(!one(&[2, 0, 1, 0, 0, 128]));
     assert!(!one(&[2, 0, 1, 0, 0, -1]));
     assert!(!one(&[2, 1, 1]));
-    assert!(!one(&[5, 0, 1]));
+    assert!(!one(&[6, 0, 1]));
     assert!(!one(&[-1, 0, 1]));
     assert!(!one(&[0, 0, 1, 0, 0, 0, 1]));
     assert!(!one(&[0, 0, 1, 0, 0, 0, 0, 1]));
@@ -260,7 +260,7 @@ fn node_records() {
         &[&[3, 4]],
         &[&[3, -1]],
         &[&[8, 0]],
-        &[&[14]],
+        &[&[18]],
         &[&[-1]],
         &[&[0, 0, 1]],
         &[&[1, 0], &[11, 0, 0, 0, 1]],
@@ -488,16 +488,16 @@ fn outcomes_are_chosen_and_applied_at_once() {
         ([0, 4, -1], 1, refused(8, 1), [0, 4, -1]),
     ] {
         let mut states = before;
-        assert_eq!(operate(&sheet, &[], &[], &mut states, 1, 0, wanted), answer, "{before:?} {wanted}");
+        assert_eq!(operate(&sheet, &[], &[], &[], &[], &mut states, 1, 0, wanted), answer, "{before:?} {wanted}");
         assert_eq!(states, after);
     }
     let mut states = [0, 2, 0];
-    assert_eq!(operate(&sheet, &[], &[], &mut states, 0, 0, -1), refused(9, 0));
-    assert_eq!(operate(&sheet, &[], &[], &mut [1, 2, 3], 0, 0, -1), refused(9, 0));
-    assert_eq!(operate(&sheet, &[], &[], &mut states, 3, 0, -1), refused(5, 0));
-    assert_eq!(operate(&sheet, &[], &[], &mut states, 1, 1, -1), refused(5, 0));
-    assert_eq!(operate(&sheet, &[1], &[], &mut states, 3, 1, 9), refused(4, 0));
-    assert_eq!(operate(&sheet, &[], &[], &mut [9, 9, 9], 0, 0, -1), refused(8, 0));
+    assert_eq!(operate(&sheet, &[], &[], &[], &[], &mut states, 0, 0, -1), refused(9, 0));
+    assert_eq!(operate(&sheet, &[], &[], &[], &[], &mut [1, 2, 3], 0, 0, -1), refused(9, 0));
+    assert_eq!(operate(&sheet, &[], &[], &[], &[], &mut states, 3, 0, -1), refused(5, 0));
+    assert_eq!(operate(&sheet, &[], &[], &[], &[], &mut states, 1, 1, -1), refused(5, 0));
+    assert_eq!(operate(&sheet, &[1], &[], &[], &[], &mut states, 3, 1, 9), refused(4, 0));
+    assert_eq!(operate(&sheet, &[], &[], &[], &[], &mut [9, 9, 9], 0, 0, -1), refused(8, 0));
 }
 
 #[test]
@@ -505,7 +505,7 @@ fn faults_of_facts() {
     let sheet = logic(&[&[1, 2, 5, 1, 4], &[1, 2, 5], &[0, 0, 1, 1, 1]], &[], &[]);
     let facts = |values: [i64; 3], given: [i64; 3]| {
         let mut after = values;
-        (assemble(&sheet, &mut after, &given), after)
+        (assemble(&sheet, &mut after, &given, &[], &[]), after)
     };
     assert_eq!(facts([9, 5, 9], [0, 1, 0]), (good(0, 0), [4, 5, 1]));
     assert_eq!(facts([2, 2, 0], [1, 1, 1]), (good(0, 0), [2, 2, 0]));
@@ -526,10 +526,10 @@ fn verdicts_by_strata() {
     assert_eq!(check(&sheet), good(0, 0));
     for (value, given, expected) in [(0, 0, [1, 0, 1]), (3, 1, [0, 1, 1]), (4, 1, [1, 0, 1])] {
         let mut out = [9; 3];
-        assert_eq!(verdicts(&sheet, &[value], &[given], &mut out), good(0, 0));
+        assert_eq!(verdicts(&sheet, &[value], &[given], &[], &[], &mut out), good(0, 0));
         assert_eq!(out, expected);
     }
-    assert_eq!(verdicts(&sheet, &[0], &[0], &mut [0; 2]), refused(4, 0));
+    assert_eq!(verdicts(&sheet, &[0], &[0], &[], &[], &mut [0; 2]), refused(4, 0));
     assert_eq!(tree_size(&sheet, 7), good(3, 0));
     assert_eq!(tree_size(&sheet, 2), good(3, 0));
     assert_eq!(tree_size(&sheet, 8), refused(5, 0));
@@ -543,8 +543,8 @@ fn paths_and_buffers() {
     assert_eq!(first(&sheet, 0, &mut [0]), refused(4, 0));
     assert_eq!(first(&sheet, 1, &mut []), refused(5, 0));
     assert_eq!(next(&sheet, -1, &mut [0]), refused(5, 0));
-    assert_eq!(run(&sheet, &[], &[], &mut [0], 1, &[], &mut []), refused(4, 0));
-    assert_eq!(run(&sheet, &[0], &[0], &mut [0], 1, &[], &mut []), refused(5, 0));
+    assert_eq!(run(&sheet, &[], &[], &[], &[], &mut [0], 1, &[], &mut []), refused(4, 0));
+    assert_eq!(run(&sheet, &[0], &[0], &[], &[], &mut [0], 1, &[], &mut []), refused(5, 0));
     for (before, answer, after) in [
         ([0, 2, 77], good(0, 2), [0, 3, 0]),
         ([0, 4, 1], good(1, 1), [1, 0, 0]),
@@ -674,12 +674,12 @@ fn a_flow_uses_the_changes_of_its_earlier_steps() {
     // One outcome is applicable at a time, so that it makes no difference whether it is wanted. Step 2 is answered 9.
     for wanted in [[-1; 4], [0, 1, 0, 1], [0, 1, 1, 0]] {
         let (mut path, mut states) = ([9; 5], [0]);
-        assert_eq!(run(&sheet, &[], &[], &mut states, 0, &wanted, &mut path), good(2, 4));
+        assert_eq!(run(&sheet, &[], &[], &[], &[], &mut states, 0, &wanted, &mut path), good(2, 4));
         assert_eq!((path, states), ([0, 4, 8, 11, 0], [2]));
     }
     // Outcome 1 is wanted of the first step, which is answered 11 and takes its failure route; the next one is made.
     let (mut path, mut states) = ([9; 5], [0]);
-    assert_eq!(run(&sheet, &[], &[], &mut states, 0, &[1, 0, -1, -1], &mut path), good(1, 4));
+    assert_eq!(run(&sheet, &[], &[], &[], &[], &mut states, 0, &[1, 0, -1, -1], &mut path), good(1, 4));
     assert_eq!((path, states), ([2, 3, 8, 10, 0], [2]));
     assert_eq!(depth(&sheet, 0), good(4, 0));
     assert_eq!(listing(&sheet, 0, 4).len(), 9 * (2 + 3));
@@ -703,16 +703,16 @@ fn wanted_words_of_a_run() {
         (&[], refused(4, 0), [7, 7], 0),
     ] {
         let (mut states, mut buffer) = ([0], [7; 2]);
-        assert_eq!(run(&sheet, &[1], &[1], &mut states, 0, wanted, &mut buffer), answer, "{wanted:?}");
+        assert_eq!(run(&sheet, &[1], &[1], &[], &[], &mut states, 0, wanted, &mut buffer), answer, "{wanted:?}");
         assert_eq!((buffer, states), (path, [after]), "{wanted:?}");
     }
     // Step 1 is not reached, and its word is judged all the same; 5 comes before the facts and the states.
     let (mut states, mut buffer) = ([0], [7; 2]);
-    assert_eq!(run(&sheet, &[0], &[1], &mut states, 0, &[-1, 2], &mut buffer), refused(5, 0));
-    assert_eq!(run(&sheet, &[9], &[1], &mut [9], 0, &[-1, 2], &mut buffer), refused(5, 0));
-    assert_eq!(run(&sheet, &[9], &[1], &mut [9], 0, &[-1, 1], &mut buffer), refused(6, 0));
+    assert_eq!(run(&sheet, &[0], &[1], &[], &[], &mut states, 0, &[-1, 2], &mut buffer), refused(5, 0));
+    assert_eq!(run(&sheet, &[9], &[1], &[], &[], &mut [9], 0, &[-1, 2], &mut buffer), refused(5, 0));
+    assert_eq!(run(&sheet, &[9], &[1], &[], &[], &mut [9], 0, &[-1, 1], &mut buffer), refused(6, 0));
     // No such flow: its wanted words are not judged.
-    assert_eq!(run(&sheet, &[1], &[1], &mut states, 1, &[7; 9], &mut buffer), refused(5, 0));
+    assert_eq!(run(&sheet, &[1], &[1], &[], &[], &mut states, 1, &[7; 9], &mut buffer), refused(5, 0));
 }
 
 /// Facts of money and of durations, without a default.
@@ -747,7 +747,11 @@ fn verdict(facts: &[&[i64]], nodes: &[&[i64]]) -> bool {
     let sheet = logic(facts, nodes, &[&[0, nodes.len() as i64 - 1]]);
     let values: Vec<i64> = facts.iter().map(|fact| fact[1]).collect();
     let mut verdicts_found = [7];
-    assert_eq!(verdicts(&sheet, &values, &vec![1; facts.len()], &mut verdicts_found), good(0, 0), "{nodes:?}");
+    assert_eq!(
+        verdicts(&sheet, &values, &vec![1; facts.len()], &[], &[], &mut verdicts_found),
+        good(0, 0),
+        "{nodes:?}"
+    );
     verdicts_found == [1]
 }
 
@@ -827,7 +831,7 @@ fn facts_of_money_and_durations() {
         ([0, 10, 0], [1, 1, 2], refused(6, 2), [0, 10, 0]),
     ] {
         let mut left = values;
-        assert_eq!(assemble(&sheet, &mut left, &given), answer, "{values:?} {given:?}");
+        assert_eq!(assemble(&sheet, &mut left, &given, &[], &[]), answer, "{values:?} {given:?}");
         assert_eq!(left, after);
     }
 }
@@ -854,8 +858,8 @@ fn literals_of_money_and_durations() {
             assert!(!one(&node), "{kind}, word {word}");
         }
     }
-    assert!(!one(&[14]));
-    assert!(!one(&[14, 5, 1]));
+    assert!(!one(&[18]));
+    assert!(!one(&[18, 5, 1]));
 }
 
 /// Every type, as facts: Bool, Int, Enums of two sets, money of two currencies, durations of all units.
@@ -1242,4 +1246,698 @@ fn a_refused_report_counts_nothing() {
     assert_eq!(reachable(&sheet, 0), refused(3, 8));
     sheet[16 + 8 * 6 + 3] = 1;
     assert_eq!(reachable(&sheet, 0), refused(2, 0));
+}
+
+/// A fact that is a list: the type of its elements, their min, max and set, and its largest length.
+fn list(element: i64, min: i64, max: i64, set: i64, largest: i64) -> [i64; 8] {
+    [5, min, max, 0, 0, set, element, largest]
+}
+
+#[test]
+fn facts_of_lists() {
+    let one = |fact: &[i64]| check(&logic(&[fact], &[], &[])).refusal == 0;
+    // Min, max and set as for a fact of the elements' type.
+    for (element, min, max, set, fits) in [
+        (0, 0, 1, 0, true),
+        (0, 0, 0, 0, false),
+        (0, 1, 1, 0, false),
+        (0, 0, 2, 0, false),
+        (0, 0, 1, 1, false),
+        (1, -M, M, 0, true),
+        (1, 5, 5, 0, true),
+        (1, -M - 1, M, 0, false),
+        (1, -M, M + 1, 0, false),
+        (1, 2, 1, 0, false),
+        (1, 0, 1, 1, false),
+        (1, i64::MIN, 0, 0, false),
+        (1, 0, i64::MAX, 0, false),
+        (2, 0, 0, 0, true),
+        (2, 0, 255, 127, true),
+        (2, 0, 256, 0, false),
+        (2, 0, -1, 0, false),
+        (2, 1, 1, 0, false),
+        (2, 0, 3, 128, false),
+        (2, 0, 3, -1, false),
+        // Money and durations are not listed, nor are lists; there are no other types.
+        (3, 0, 1, 0, false),
+        (4, 0, 1, 0, false),
+        (5, 0, 1, 0, false),
+        (-1, 0, 1, 0, false),
+        (6, 0, 1, 0, false),
+        (i64::MIN, 0, 1, 0, false),
+        (i64::MAX, 0, 1, 0, false),
+        (1 << 32, 0, 1, 0, false),
+    ] {
+        assert_eq!(one(&list(element, min, max, set, 7)), fits, "{element} {min}..{max} {set}");
+    }
+    for element in 0..3 {
+        for largest in 0..=100 {
+            assert!(one(&list(element, 0, 1, 0, largest)), "{largest}");
+        }
+        for largest in [-1, 101, 128, 1 << 32, i64::MIN, i64::MAX] {
+            assert!(!one(&list(element, 0, 1, 0, largest)), "{largest}");
+        }
+        // No default: both words are 0, whatever the default would be.
+        for (has_default, default) in [(1, 0), (1, 1), (0, 1), (0, -1), (2, 0), (-1, 0), (i64::MIN, 0), (0, i64::MAX)] {
+            let fact = [5, 0, 1, has_default, default, 0, element, 7];
+            assert!(!one(&fact), "{fact:?}");
+        }
+    }
+    // The words of other types stay unused.
+    for kind in 0..5 {
+        assert!(one(&[kind, 0, 1]));
+        for (word, value) in [(6, 1), (6, -1), (6, 2), (7, 1), (7, -1), (7, 100)] {
+            let mut fact = [kind, 0, 1, 0, 0, 0, 0, 0];
+            fact[word] = value;
+            assert!(!one(&fact), "{fact:?}");
+        }
+    }
+    // Facts of one set have one max, lists of Enums and Enums together; Ints and Bools have no set.
+    let (plain, other): (&[i64], &[i64]) = (&[2, 0, 3, 0, 0, 9], &[2, 0, 4, 0, 0, 9]);
+    let (of_three, of_four) = (list(2, 0, 3, 9, 5), list(2, 0, 4, 9, 6));
+    let sets = |facts: &[&[i64]]| check(&logic(facts, &[], &[]));
+    assert_eq!(sets(&[plain, &of_three, plain, &of_three]), good(0, 0));
+    assert_eq!(sets(&[plain, &of_four]), refused(3, 1));
+    assert_eq!(sets(&[&of_three, other]), refused(3, 1));
+    assert_eq!(sets(&[&of_three, &of_four]), refused(3, 1));
+    assert_eq!(sets(&[&of_three, plain, &list(2, 0, 4, 8, 5), &of_four]), refused(3, 3));
+    let ints: [&[i64]; 4] = [&[2, 0, 3, 0, 0, 0], &list(1, 0, 7, 0, 5), &list(0, 0, 1, 0, 5), &list(1, -9, 9, 0, 0)];
+    assert_eq!(sets(&ints), good(0, 0));
+    // As many as there are facts.
+    let all: Vec<&[i64]> = vec![&[5, 0, 1, 0, 0, 0, 0, 100]; 128];
+    assert_eq!(sets(&all), good(0, 0));
+}
+
+#[test]
+fn nodes_over_lists() {
+    // Facts 0 to 4 are no lists; 5 is a list of Bools, 6 of Ints, 7 and 8 of Enums of two sets.
+    let facts: [&[i64]; 9] = [
+        &[0, 0, 1],
+        &[1, 0, 1],
+        &[2, 0, 1],
+        &[3, 0, 1],
+        &[4, 0, 1],
+        &list(0, 0, 1, 0, 3),
+        &list(1, -5, 5, 0, 3),
+        &list(2, 0, 1, 0, 3),
+        &list(2, 0, 1, 4, 0),
+    ];
+    let some = |nodes: &[&[i64]]| check(&logic(&facts, nodes, &[]));
+    for fact in [0, 1, 2, 3, 4, 5, 6, 7, 8, 9, -1, 128, 1 << 32, i64::MIN, i64::MAX] {
+        let (plain, listed) = ((0..=4).contains(&fact), (5..=8).contains(&fact));
+        let expected = |fits: bool, place: i64| if fits { good(0, 0) } else { refused(3, 9 + place) };
+        assert_eq!(some(&[&[3, fact]]), expected(plain, 0), "{fact}");
+        assert_eq!(some(&[&[16, fact]]), expected(listed, 0), "{fact}");
+        assert_eq!(some(&[&[17, fact]]), expected(listed, 0), "{fact}");
+        assert_eq!(some(&[&[1, 1], &[14, fact, 0]]), expected(listed, 1), "{fact}");
+        assert_eq!(some(&[&[1, 1], &[15, fact, 0]]), expected(listed, 1), "{fact}");
+    }
+    for kind in [14, 15] {
+        // The body: a Bool node of a smaller number that nothing has named.
+        assert_eq!(some(&[&[17, 5], &[kind, 5, 0]]), good(0, 0));
+        assert_eq!(some(&[&[17, 5], &[kind, 6, 0]]), good(0, 0), "the element of another list");
+        assert_eq!(some(&[&[0, 1], &[kind, 5, 0]]), refused(3, 10));
+        assert_eq!(some(&[&[17, 6], &[kind, 6, 0]]), refused(3, 10));
+        assert_eq!(some(&[&[17, 7], &[kind, 7, 0]]), refused(3, 10));
+        assert_eq!(some(&[&[16, 6], &[kind, 6, 0]]), refused(3, 10));
+        for body in [1, 2, -1, 1024, i64::MIN, i64::MAX] {
+            assert_eq!(some(&[&[1, 1], &[kind, 5, body]]), refused(3, 10), "{body}");
+        }
+        assert_eq!(some(&[&[kind, 5, 0]]), refused(3, 9));
+        assert_eq!(some(&[&[1, 1], &[kind, 5, 0], &[kind, 6, 0]]), refused(3, 11));
+        assert_eq!(some(&[&[1, 1], &[kind, 5, 0], &[11, 0]]), refused(3, 11));
+        assert_eq!(some(&[&[1, 1], &[11, 0], &[kind, 5, 0]]), refused(3, 11));
+        for word in 3..8 {
+            let mut node = [kind, 5, 0, 0, 0, 0, 0, 0];
+            assert_eq!(some(&[&[1, 1], &node]), good(0, 0));
+            node[word] = 1;
+            assert_eq!(some(&[&[1, 1], &node]), refused(3, 10), "word {word}");
+        }
+    }
+    for kind in [16, 17] {
+        for word in 2..8 {
+            let mut node = [kind, 6, 0, 0, 0, 0, 0, 0];
+            assert_eq!(some(&[&node]), good(0, 0));
+            node[word] = 1;
+            assert_eq!(some(&[&node]), refused(3, 9), "word {word}");
+        }
+    }
+    // Types: a quantifier is a Bool, a length an Int, an element what the list is of.
+    let leaf = |of: &str| -> [[i64; 3]; 2] {
+        match of {
+            "Bool" => [[1, 1, 0], [17, 5, 0]],
+            "Int" => [[0, 1, 0], [17, 6, 0]],
+            "length" => [[0, 1, 0], [16, 7, 0]],
+            "Enum of set 0" => [[2, 1, 0], [17, 7, 0]],
+            _ => [[2, 1, 4], [17, 8, 0]],
+        }
+    };
+    let sorts = ["Bool", "Int", "length", "Enum of set 0", "Enum of set 4"];
+    for x in sorts {
+        for y in sorts {
+            let same = leaf(x)[0] == leaf(y)[0];
+            let int = ["Int", "length"].contains(&x);
+            for (a, b) in [(1, 0), (0, 1), (1, 1)] {
+                for over in OVER_TWO {
+                    let fits = match over {
+                        [7, 0 | 1, ..] => same,
+                        _ => same && int,
+                    };
+                    let expected = if fits { good(0, 0) } else { refused(3, 11) };
+                    assert_eq!(some(&[&leaf(x)[a], &leaf(y)[b], &over]), expected, "{x} {y} {over:?}");
+                }
+                for over in [[9, 0, 1], [10, 0, 1]] {
+                    let expected = if same && x == "Bool" { good(0, 0) } else { refused(3, 11) };
+                    assert_eq!(some(&[&leaf(x)[a], &leaf(y)[b], &over]), expected, "{x} {y} {over:?}");
+                }
+            }
+        }
+        let int = ["Int", "length"].contains(&x);
+        assert_eq!(some(&[&leaf(x)[1], &[6, 0, 3]]), if int { good(0, 0) } else { refused(3, 10) }, "{x}");
+        assert_eq!(some(&[&leaf(x)[1], &[11, 0]]), if x == "Bool" { good(0, 0) } else { refused(3, 10) }, "{x}");
+    }
+    for (kind, over, fits) in [
+        (14, [11, 1, 0, 0], true),
+        (15, [9, 1, 2, 0], true),
+        (14, [10, 2, 1, 0], true),
+        (15, [7, 1, 1, 2], true),
+        (14, [7, 2, 1, 2], false),
+        (15, [4, 1, 2, 0], false),
+        (14, [6, 1, 2, 0], false),
+    ] {
+        let expected = if fits { good(0, 0) } else { refused(3, 12) };
+        assert_eq!(some(&[&[1, 1], &[kind, 6, 0], &[1, 0], &over]), expected, "{kind} {over:?}");
+    }
+}
+
+#[test]
+fn ranges_of_lengths_and_elements() {
+    // An element's range is min..max: M and 0 is M, M and 1 is too much.
+    for (min, max, v, over, fits) in [
+        (0, M, 0, [4, 0, 1], true),
+        (0, M, 1, [4, 0, 1], false),
+        (-M, 0, -1, [4, 0, 1], false),
+        (-M, 0, 1, [5, 0, 1], false),
+        (-M, 0, 0, [5, 0, 1], true),
+        (M, M, 1, [5, 0, 1], true),
+        (M, M, 1, [4, 0, 1], false),
+    ] {
+        let sheet = logic(&[&list(1, min, max, 0, 0)], &[&[17, 0], &[0, v], &over], &[]);
+        assert_eq!(check(&sheet), if fits { good(0, 0) } else { refused(3, 3) }, "{min}..{max} {v} {over:?}");
+    }
+    let times = |n: i64| check(&logic(&[&list(1, -4, 5, 0, 9)], &[&[17, 0], &[6, 0, n]], &[])).refusal;
+    assert_eq!([M / 5, -(M / 5), M / 5 + 1, -(M / 5) - 1].map(times), [0, 0, 3, 3]);
+    // A length's is 0..largest, whatever the elements are.
+    let sum = |largest: i64, v: i64| {
+        check(&logic(&[&list(1, -7, 900, 0, largest)], &[&[16, 0], &[0, v], &[4, 0, 1]], &[])).refusal
+    };
+    assert_eq!([sum(100, M - 100), sum(100, M - 99), sum(0, M), sum(1, M), sum(100, -M)], [0, 3, 0, 3, 0]);
+    for largest in [0, 1, 2, 99, 100] {
+        let fact = list(2, 0, 200, 3, largest);
+        for (v, operator, expected) in [
+            (0, 5, [1, 0]),
+            (0, 4, [(largest > 0) as i64, 1]),
+            (0, 0, [1, (largest > 0) as i64]),
+            (largest, 3, [1, 0]),
+            (largest, 4, [0, 1]),
+            (largest, 0, [1, (largest > 0) as i64]),
+            (largest + 1, 0, [0, 1]),
+            (-1, 3, [0, 1]),
+        ] {
+            let nodes: [&[i64]; 3] = [&[16, 0], &[0, v], &[7, operator, 0, 1]];
+            assert_eq!(may_hold(&[&fact], &nodes), expected, "{largest} {v} {operator}");
+        }
+    }
+    // Both quantifiers are 0..1, whatever their body and the list: both may hold, and may not.
+    for kind in [14, 15] {
+        for body in [[1, 0], [1, 1], [17, 0]] {
+            for largest in [0, 1, 100] {
+                assert_eq!(may_hold(&[&list(0, 0, 1, 0, largest)], &[&body, &[kind, 0, 0]]), [1, 1]);
+            }
+        }
+        // An Int element is never above its max; the quantifier says 0..1 all the same.
+        let nodes: [&[i64]; 4] = [&[17, 0], &[0, 5], &[7, 4, 0, 1], &[kind, 0, 2]];
+        assert_eq!(may_hold(&[&list(1, 1, 5, 0, 4)], &nodes), [1, 1]);
+    }
+}
+
+#[test]
+fn quantifiers_do_not_nest() {
+    let facts: [&[i64]; 2] = [&list(0, 0, 1, 0, 3), &list(1, 0, 9, 0, 3)];
+    let some = |nodes: &[&[i64]]| check(&logic(&facts, nodes, &[]));
+    for (outer, inner) in [(14, 14), (14, 15), (15, 14), (15, 15)] {
+        for (over, of) in [(0, 0), (0, 1), (1, 0), (1, 1)] {
+            // The body itself, and deeper in it; the outer one is bad.
+            assert_eq!(some(&[&[1, 1], &[inner, of, 0], &[outer, over, 1]]), refused(3, 4));
+            assert_eq!(some(&[&[1, 1], &[inner, of, 0], &[11, 1], &[outer, over, 2]]), refused(3, 5));
+            let nodes: [&[i64]; 8] =
+                [&[1, 1], &[inner, of, 0], &[1, 0], &[7, 0, 1, 2], &[17, 0], &[10, 4, 3], &[11, 5], &[outer, over, 6]];
+            assert_eq!(some(&nodes[..7]), good(0, 0));
+            assert_eq!(some(&nodes), refused(3, 9));
+            // Side by side they are good, over one list too.
+            assert_eq!(some(&[&[1, 1], &[1, 1], &[outer, over, 0], &[inner, of, 1], &[9, 2, 3]]), good(0, 0));
+        }
+    }
+}
+
+/// A sheet of these facts and nodes, and with the last node under a rule, an operation or a branch.
+fn owned(facts: &[&[i64]], nodes: &[&[i64]]) -> [Vec<i64>; 3] {
+    let root = nodes.len() as i64 - 1;
+    let end: &[i64] = &[1, 0];
+    [
+        logic(facts, nodes, &[&[0, root]]),
+        sheet(
+            1,
+            [facts, nodes, &[], &[&[1, 0]], &[&[0, 0, 0]], &[&[1, root, 0, 1, 1]], &[&[0, 0, 0, 0]], &[], &[], &[]],
+        ),
+        sheet(0, [facts, nodes, &[], &[], &[], &[], &[], &[&[0, 1]], &[&[1, root, 0, 0, 2]], &[end, end]]),
+    ]
+}
+
+#[test]
+fn elements_stay_in_a_quantifier_over_their_list() {
+    let facts: [&[i64]; 3] = [&list(0, 0, 1, 0, 3), &list(0, 0, 1, 0, 2), &[0, 0, 1]];
+    for (nodes, closed) in [
+        (&[&[17i64, 0] as &[i64]] as &[&[i64]], false),
+        (&[&[17, 0], &[14, 0, 0]], true),
+        (&[&[17, 0], &[15, 0, 0]], true),
+        (&[&[17, 0], &[14, 1, 0]], false),
+        (&[&[17, 1], &[15, 0, 0]], false),
+        (&[&[17, 0], &[11, 0]], false),
+        (&[&[17, 0], &[11, 0], &[15, 0, 1], &[11, 2]], true),
+        (&[&[17, 0], &[17, 0], &[7, 0, 0, 1], &[14, 0, 2]], true),
+        // The element of each list under a quantifier over one of them.
+        (&[&[17, 0], &[17, 1], &[9, 0, 1], &[14, 0, 2]], false),
+        (&[&[17, 0], &[17, 1], &[9, 0, 1], &[15, 1, 2]], false),
+        // Under a quantifier of its own.
+        (&[&[17, 0], &[14, 0, 0], &[17, 1], &[15, 1, 2], &[10, 1, 3]], true),
+        (&[&[17, 0], &[14, 1, 0], &[17, 1], &[15, 0, 2], &[10, 1, 3]], false),
+        // One in a quantifier, the other beside it.
+        (&[&[17, 0], &[14, 0, 0], &[17, 0], &[10, 1, 2]], false),
+        (&[&[17, 0], &[17, 0], &[14, 0, 1], &[9, 0, 2]], false),
+        // A length needs no quantifier, in a body or out of one.
+        (&[&[16, 0], &[0, 2], &[7, 4, 0, 1]], true),
+        (&[&[16, 0], &[0, 2], &[7, 4, 0, 1], &[14, 1, 2]], true),
+        (&[&[3, 2], &[14, 1, 0]], true),
+        // Elements that the root does not reach.
+        (&[&[17, 0], &[17, 1], &[9, 0, 1], &[1, 1]], true),
+        (&[&[17, 1], &[14, 0, 0], &[3, 2]], true),
+    ] {
+        // The nodes are good by themselves.
+        assert_eq!(check(&logic(&facts, nodes, &[])), good(0, 0), "{nodes:?}");
+        let place = (facts.len() + nodes.len()) as i64;
+        let places = [place, place + 2, place + 1];
+        for (sheet, place) in owned(&facts, nodes).iter().zip(places) {
+            let expected = if closed { good(0, 0) } else { refused(3, place) };
+            assert_eq!(check(sheet), expected, "{nodes:?}");
+        }
+    }
+    // The last of 128 facts, and the first.
+    let all: Vec<&[i64]> = vec![&[5, 0, 1, 0, 0, 0, 0, 0]; 128];
+    for (element, over) in [(127, 127), (0, 0), (127, 0), (0, 127), (64, 0), (0, 64), (126, 127)] {
+        let expected = if element == over { good(0, 0) } else { refused(3, 130) };
+        assert_eq!(check(&logic(&all, &[&[17, element], &[14, over, 0]], &[&[0, 1]])), expected);
+    }
+}
+
+#[test]
+fn faults_of_lists() {
+    // Fact 0: a Bool with default 1. 1: a list of up to 2 Ints of 10..20. 2: an Int of 0..5 without a default.
+    // 3: a list of up to 3 Enums of 0..2. 4: a list of up to 0 Bools.
+    let sheet = logic(
+        &[&[0, 0, 1, 1, 1], &list(1, 10, 20, 0, 2), &[1, 0, 5], &list(2, 0, 2, 7, 3), &list(0, 0, 1, 0, 0)],
+        &[],
+        &[],
+    );
+    assert_eq!(check(&sheet), good(0, 0));
+    const X: i64 = i64::MIN;
+    for (given, lists, lengths, answer) in [
+        ([0, 1, 1, 1, 1], [10, 20, 0, 2, 1], [2, 3, 0], good(0, 0)),
+        // Slots past the length are not read.
+        ([0, 1, 1, 1, 1], [X, X, X, X, X], [0, 0, 0], good(0, 0)),
+        ([0, 1, 1, 1, 1], [15, X, 1, 2, i64::MAX], [1, 2, 0], good(0, 0)),
+        ([0, 1, 1, 1, 1], [15, X, 1, 2, 3], [1, 2, 0], good(0, 0)),
+        // A length outside 0..largest.
+        ([0, 1, 1, 1, 1], [10, 20, 0, 2, 1], [3, 3, 0], refused(6, 1)),
+        ([0, 1, 1, 1, 1], [10, 20, 0, 2, 1], [-1, 3, 0], refused(6, 1)),
+        ([0, 1, 1, 1, 1], [10, 20, 0, 2, 1], [X, 3, 0], refused(6, 1)),
+        ([0, 1, 1, 1, 1], [10, 20, 0, 2, 1], [i64::MAX, 3, 0], refused(6, 1)),
+        ([0, 1, 1, 1, 1], [10, 20, 0, 2, 1], [1 << 32, 3, 0], refused(6, 1)),
+        ([0, 1, 1, 1, 1], [10, 20, 0, 2, 1], [2, 4, 0], refused(6, 3)),
+        ([0, 1, 1, 1, 1], [10, 20, 0, 2, 1], [2, 3, 1], refused(6, 4)),
+        ([0, 1, 1, 1, 1], [10, 20, 0, 2, 1], [2, 3, -1], refused(6, 4)),
+        // An element outside min..max.
+        ([0, 1, 1, 1, 1], [9, 20, 0, 2, 1], [2, 3, 0], refused(6, 1)),
+        ([0, 1, 1, 1, 1], [10, 21, 0, 2, 1], [2, 3, 0], refused(6, 1)),
+        ([0, 1, 1, 1, 1], [10, 21, 0, 2, 1], [1, 3, 0], good(0, 0)),
+        ([0, 1, 1, 1, 1], [10, 20, -1, 2, 1], [2, 3, 0], refused(6, 3)),
+        ([0, 1, 1, 1, 1], [10, 20, 0, 2, 3], [2, 3, 0], refused(6, 3)),
+        // The slots of one list are not those of another: 10 and 20 are no Enums of 0..2.
+        ([0, 1, 1, 1, 1], [0, 2, 10, 20, 1], [2, 3, 0], refused(6, 1)),
+        ([0, 1, 1, 1, 1], [10, 20, 10, 2, 1], [2, 3, 0], refused(6, 3)),
+        // Not given: 7, whatever the length and the slots say.
+        ([0, 0, 1, 1, 1], [10, 20, 0, 2, 1], [2, 3, 0], refused(7, 1)),
+        ([0, 0, 1, 1, 1], [X, X, 0, 2, 1], [0, 3, 0], refused(7, 1)),
+        ([0, 0, 1, 1, 1], [10, 20, 0, 2, 1], [9, 3, 0], refused(7, 1)),
+        ([0, 0, 1, 1, 1], [10, 20, 0, 2, 1], [-1, 3, 0], refused(7, 1)),
+        ([0, 1, 1, 1, 0], [10, 20, 0, 2, 1], [2, 3, 0], refused(7, 4)),
+        ([0, 1, 1, 1, 0], [10, 20, 0, 2, 1], [2, 3, 5], refused(7, 4)),
+        // A flag not 0 or 1.
+        ([0, 2, 1, 1, 1], [10, 20, 0, 2, 1], [2, 3, 0], refused(6, 1)),
+        ([0, 1, 1, -1, 1], [10, 20, 0, 2, 1], [2, 3, 0], refused(6, 3)),
+        ([0, 1, 1, X, 1], [10, 20, 0, 2, 1], [2, 3, 0], refused(6, 3)),
+        // The first faulty fact decides.
+        ([2, 0, 0, 0, 0], [10, 20, 0, 2, 1], [2, 3, 0], refused(6, 0)),
+        ([0, 0, 0, 2, 2], [X, X, X, X, X], [9, 9, 9], refused(7, 1)),
+        ([0, 1, 0, 0, 0], [10, 20, X, X, X], [2, 9, 9], refused(7, 2)),
+        ([0, 1, 0, 0, 0], [10, 9, X, X, X], [2, 9, 9], refused(6, 1)),
+        ([0, 1, 1, 1, 0], [10, 20, 0, 9, 0], [2, 2, 0], refused(6, 3)),
+        ([0, 1, 1, 0, 2], [10, 20, 0, 9, 0], [2, 2, 9], refused(7, 3)),
+    ] {
+        // The value word of a list is not read, and stays.
+        for rubbish in [0, 15, X, i64::MAX] {
+            let values = [9, rubbish, 5, rubbish, rubbish];
+            let after = if answer.refusal == 0 { [1, rubbish, 5, rubbish, rubbish] } else { values };
+            let mut left = values;
+            assert_eq!(
+                assemble(&sheet, &mut left, &given, &lists, &lengths),
+                answer,
+                "{given:?} {lists:?} {lengths:?}"
+            );
+            assert_eq!(left, after);
+            assert_eq!(verdicts(&sheet, &values, &given, &lists, &lengths, &mut []), answer);
+        }
+    }
+    // Other totals are 4, and no list is looked at then.
+    let (values, given, lists, lengths) = ([9, 0, 5, 0, 0], [0, 1, 1, 1, 1], [10, 20, 0, 2, 1, 9, 9], [2, 3, 0, 9]);
+    let call = |given: &[i64], slots: usize, count: usize| {
+        assemble(&sheet, &mut values.clone(), given, &lists[..slots], &lengths[..count])
+    };
+    assert_eq!(call(&given, 5, 3), good(0, 0));
+    for (slots, count) in [(4, 3), (6, 3), (0, 3), (7, 3), (5, 2), (5, 4), (5, 0), (0, 0), (6, 2)] {
+        assert_eq!(call(&given, slots, count), refused(4, 0), "{slots} {count}");
+        assert_eq!(call(&[9; 5], slots, count), refused(4, 0), "{slots} {count}");
+    }
+    // A sheet without lists is lent none.
+    let plain = logic(&[&[0, 0, 1]], &[], &[]);
+    assert_eq!(assemble(&plain, &mut [1], &[1], &[], &[]), good(0, 0));
+    assert_eq!(assemble(&plain, &mut [1], &[1], &[0], &[]), refused(4, 0));
+    assert_eq!(assemble(&plain, &mut [1], &[1], &[], &[0]), refused(4, 0));
+    // A list of largest 0 has a length and no slot.
+    let empty = logic(&[&list(1, 0, 1, 0, 0)], &[], &[]);
+    assert_eq!(assemble(&empty, &mut [7], &[1], &[], &[0]), good(0, 0));
+    assert_eq!(assemble(&empty, &mut [7], &[1], &[0], &[0]), refused(4, 0));
+    assert_eq!(assemble(&empty, &mut [7], &[1], &[], &[]), refused(4, 0));
+    // As much as there may be: 128 lists of 100.
+    let all: Vec<&[i64]> = vec![&[5, 0, 1, 0, 0, 0, 0, 100]; 128];
+    let (most, mut slots) = (logic(&all, &[], &[]), vec![1; 12_800]);
+    assert_eq!(assemble(&most, &mut [7; 128], &[1; 128], &slots, &[100; 128]), good(0, 0));
+    assert_eq!(assemble(&most, &mut [7; 128], &[1; 128], &slots[1..], &[100; 128]), refused(4, 0));
+    slots[12_799] = 2;
+    assert_eq!(assemble(&most, &mut [7; 128], &[1; 128], &slots, &[100; 128]), refused(6, 127));
+    slots[12_799] = 1;
+    slots[100 * 64] = 2;
+    assert_eq!(assemble(&most, &mut [7; 128], &[1; 128], &slots, &[100; 128]), refused(6, 64));
+}
+
+/// The verdict of one rule on the last node, over these lists. What stands past a list's elements is no element.
+fn verdict_of(lists: &[([i64; 8], &[i64])], nodes: &[&[i64]]) -> bool {
+    let facts: Vec<&[i64]> = lists.iter().map(|(fact, _)| &fact[..]).collect();
+    let sheet = logic(&facts, nodes, &[&[0, nodes.len() as i64 - 1]]);
+    let (mut slots, mut lengths) = (vec![], vec![]);
+    for (fact, elements) in lists {
+        lengths.push(elements.len() as i64);
+        let end = slots.len() + fact[7] as usize;
+        slots.extend_from_slice(elements);
+        slots.resize(end, i64::MIN);
+    }
+    let mut found = [7];
+    let (values, given) = (vec![i64::MAX; lists.len()], vec![1; lists.len()]);
+    assert_eq!(verdicts(&sheet, &values, &given, &slots, &lengths, &mut found), good(0, 0), "{nodes:?}");
+    found == [1]
+}
+
+#[test]
+fn for_all_and_exists() {
+    let bools = list(0, 0, 1, 0, 3);
+    for (elements, all, some) in [
+        (&[][..], true, false),
+        (&[0], false, false),
+        (&[1], true, true),
+        (&[0, 0], false, false),
+        (&[0, 1], false, true),
+        (&[1, 0], false, true),
+        (&[1, 1], true, true),
+        (&[0, 0, 0], false, false),
+        (&[0, 0, 1], false, true),
+        (&[0, 1, 0], false, true),
+        (&[0, 1, 1], false, true),
+        (&[1, 0, 0], false, true),
+        (&[1, 0, 1], false, true),
+        (&[1, 1, 0], false, true),
+        (&[1, 1, 1], true, true),
+    ] {
+        assert_eq!(verdict_of(&[(bools, elements)], &[&[17, 0], &[14, 0, 0]]), all, "{elements:?}");
+        assert_eq!(verdict_of(&[(bools, elements)], &[&[17, 0], &[15, 0, 0]]), some, "{elements:?}");
+        // The second list's slots are its own, and its length too.
+        for other in [&[][..], &[0], &[1], &[0, 0, 0], &[1, 1, 1]] {
+            let lists = [(bools, other), (bools, elements), (bools, other)];
+            assert_eq!(verdict_of(&lists, &[&[17, 1], &[14, 1, 0]]), all, "{elements:?} {other:?}");
+            assert_eq!(verdict_of(&lists, &[&[17, 1], &[15, 1, 0]]), some, "{elements:?} {other:?}");
+        }
+        // Not exists not is for all; the other way round likewise.
+        let not_not = |kind: i64| verdict_of(&[(bools, elements)], &[&[17, 0], &[11, 0], &[kind, 0, 1], &[11, 2]]);
+        assert_eq!((not_not(15), not_not(14)), (all, some), "{elements:?}");
+        // A body that does not look at the element.
+        let fixed = |kind: i64, body: i64| verdict_of(&[(bools, elements)], &[&[1, body], &[kind, 0, 0]]);
+        let empty = elements.is_empty();
+        assert_eq!([fixed(14, 0), fixed(14, 1), fixed(15, 0), fixed(15, 1)], [empty, true, false, !empty]);
+        // Length, as a number.
+        for v in 0..4 {
+            let equals = verdict_of(&[(bools, elements)], &[&[16, 0], &[0, v], &[7, 0, 0, 1]]);
+            assert_eq!(equals, elements.len() as i64 == v, "{elements:?}");
+        }
+    }
+    // A list of largest 0 is always empty.
+    let none = list(1, 0, 9, 0, 0);
+    assert!(verdict_of(&[(none, &[])], &[&[1, 0], &[14, 0, 0]]));
+    assert!(!verdict_of(&[(none, &[])], &[&[1, 1], &[15, 0, 0]]));
+    assert!(verdict_of(&[(none, &[])], &[&[16, 0], &[0, 0], &[7, 0, 0, 1]]));
+    // A hundred elements, of which one differs, wherever it stands.
+    let many = list(1, -9, 9, 0, 100);
+    for place in [0, 1, 50, 98, 99] {
+        let mut elements = [3; 100];
+        let nodes = |kind: i64, operator: i64| -> [[i64; 4]; 4] {
+            [[17, 0, 0, 0], [0, 3, 0, 0], [7, operator, 0, 1], [kind, 0, 2, 0]]
+        };
+        let holds = |elements: &[i64], kind: i64, operator: i64| {
+            let nodes = nodes(kind, operator);
+            verdict_of(&[(many, elements)], &[&nodes[0], &nodes[1], &nodes[2], &nodes[3]])
+        };
+        assert_eq!((holds(&elements, 14, 0), holds(&elements, 15, 1)), (true, false));
+        elements[place] = 4;
+        assert_eq!((holds(&elements, 14, 0), holds(&elements, 15, 1)), (false, true), "{place}");
+        // Up to it, and with it.
+        assert_eq!((holds(&elements[..place], 14, 0), holds(&elements[..place], 15, 1)), (true, false), "{place}");
+        assert_eq!((holds(&elements[..=place], 14, 0), holds(&elements[..=place], 15, 1)), (false, true), "{place}");
+    }
+}
+
+#[test]
+fn bodies_of_every_sort() {
+    let (ints, enums) = (list(1, -100, 100, 0, 4), list(2, 0, 3, 5, 4));
+    // Every 2 x element - 1 is below 8: elements up to 4.
+    let below: [&[i64]; 7] = [&[17, 0], &[6, 0, 2], &[0, 1], &[5, 1, 2], &[0, 8], &[7, 2, 3, 4], &[14, 0, 5]];
+    assert!(verdict_of(&[(ints, &[4, -100, 0])], &below));
+    assert!(!verdict_of(&[(ints, &[4, 5])], &below));
+    // Some element is its own product by -1: zero. Element and element are the same element.
+    let zero: [&[i64]; 5] = [&[17, 0], &[17, 0], &[6, 1, -1], &[7, 0, 0, 2], &[15, 0, 3]];
+    assert!(verdict_of(&[(ints, &[7, 0])], &zero));
+    assert!(!verdict_of(&[(ints, &[7, -7])], &zero));
+    // Every element is at least the length of the list, and of the other one.
+    let at_least = |of: i64| -> [[i64; 4]; 4] { [[17, 0, 0, 0], [16, of, 0, 0], [7, 5, 0, 1], [14, 0, 2, 0]] };
+    for (elements, others, of, expected) in [
+        (&[2, 2][..], &[1, 1, 1][..], 0, true),
+        (&[2, 2], &[1, 1, 1], 1, false),
+        (&[3, 2, 9], &[1], 0, false),
+        (&[3, 2, 9], &[1], 1, true),
+        (&[], &[1, 1], 1, true),
+    ] {
+        let nodes = at_least(of);
+        let nodes: [&[i64]; 4] = [&nodes[0], &nodes[1], &nodes[2], &nodes[3]];
+        assert_eq!(verdict_of(&[(ints, elements), (enums, others)], &nodes), expected, "{elements:?} {others:?} {of}");
+    }
+    // Some Enum is 2 of set 5.
+    let two: [&[i64]; 4] = [&[17, 0], &[2, 2, 5], &[7, 0, 0, 1], &[15, 0, 2]];
+    assert!(verdict_of(&[(enums, &[0, 3, 2])], &two));
+    assert!(!verdict_of(&[(enums, &[0, 3, 1])], &two));
+    // Under and, or, not, =, and side by side over one list: all above 0, and some above 9.
+    let pair: [&[i64]; 8] =
+        [&[17, 0], &[0, 0], &[7, 4, 0, 1], &[14, 0, 2], &[17, 0], &[0, 9], &[7, 4, 4, 5], &[15, 0, 6]];
+    let joined = |over: &[i64], elements: &[i64]| verdict_of(&[(ints, elements)], &[&pair[..], &[over]].concat());
+    for (elements, all, some) in
+        [(&[1, 10][..], true, true), (&[1, 2], true, false), (&[0, 10], false, true), (&[0], false, false)]
+    {
+        assert_eq!(joined(&[9, 3, 7], elements), all && some, "{elements:?}");
+        assert_eq!(joined(&[10, 3, 7], elements), all || some, "{elements:?}");
+        assert_eq!(joined(&[7, 0, 3, 7], elements), all == some, "{elements:?}");
+        assert_eq!(joined(&[7, 1, 7, 3], elements), all != some, "{elements:?}");
+    }
+    // And, or in a body: every element is 3, or above 9 and below 12.
+    let mixed: [&[i64]; 12] = [
+        &[17, 0],
+        &[0, 3],
+        &[7, 0, 0, 1],
+        &[17, 0],
+        &[0, 9],
+        &[7, 4, 3, 4],
+        &[17, 0],
+        &[0, 12],
+        &[7, 2, 6, 7],
+        &[9, 5, 8],
+        &[10, 2, 9],
+        &[14, 0, 10],
+    ];
+    assert!(verdict_of(&[(ints, &[3, 10, 11, 3])], &mixed));
+    assert!(!verdict_of(&[(ints, &[3, 10, 12, 3])], &mixed));
+    assert!(!verdict_of(&[(ints, &[9])], &mixed));
+    // A duration in days beside an hour, in a body: conversion has nothing to do with the element.
+    let hours: [&[i64]; 5] = [&[13, 1, 0], &[13, 24, 1], &[7, 0, 0, 1], &[14, 0, 2], &[11, 3]];
+    assert!(!verdict_of(&[(ints, &[1, 2])], &hours));
+}
+
+#[test]
+fn facts_and_verdicts_in_a_body() {
+    // Fact 0: a limit, default 5. Fact 1: a list of Ints. Rule 0: the limit is above 2. Rule 1: rule 0 holds and every
+    // element is up to the limit. Rule 2: some element is above the limit, or rule 1 does not hold.
+    let sheet = logic(
+        &[&[1, 0, 9, 1, 5], &list(1, 0, 9, 0, 3)],
+        &[
+            &[3, 0],
+            &[0, 2],
+            &[7, 4, 0, 1],
+            &[8, 0],
+            &[17, 1],
+            &[3, 0],
+            &[7, 3, 4, 5],
+            &[9, 3, 6],
+            &[14, 1, 7],
+            &[17, 1],
+            &[3, 0],
+            &[7, 4, 9, 10],
+            &[8, 1],
+            &[11, 12],
+            &[10, 11, 13],
+            &[15, 1, 14],
+        ],
+        &[&[0, 2], &[1, 8], &[2, 15]],
+    );
+    assert_eq!(check(&sheet), good(0, 0));
+    for (limit, given, elements, expected) in [
+        (0, 0, &[5, 1, 0][..], [1, 1, 0]),
+        (0, 0, &[6], [1, 0, 1]),
+        (9, 1, &[9, 9, 9], [1, 1, 0]),
+        (2, 1, &[0], [0, 0, 1]),
+        (2, 1, &[], [0, 1, 0]),
+        (8, 1, &[1, 2, 9], [1, 0, 1]),
+    ] {
+        let mut slots = elements.to_vec();
+        slots.resize(3, -1);
+        let mut out = [7; 3];
+        let answer = verdicts(&sheet, &[limit, 77], &[given, 1], &slots, &[elements.len() as i64], &mut out);
+        assert_eq!((answer, out), (good(0, 0), expected), "{limit} {elements:?}");
+    }
+    // A rule cites lower strata, in a body too.
+    let two = |first: i64, second: i64, cited: i64| {
+        let facts: [&[i64]; 1] = [&list(0, 0, 1, 0, 1)];
+        check(&logic(&facts, &[&[1, 1], &[8, cited], &[14, 0, 1]], &[&[first, 0], &[second, 2]]))
+    };
+    assert_eq!((two(0, 1, 0), two(1, 1, 0), two(0, 1, 1)), (good(0, 0), refused(3, 5), refused(3, 5)));
+}
+
+#[test]
+fn sizes_of_trees_with_quantifiers() {
+    // A body is counted once, however long the list may be.
+    let nodes: [&[i64]; 9] =
+        [&[17, 0], &[0, 3], &[7, 2, 0, 1], &[14, 0, 2], &[16, 0], &[0, 1], &[7, 4, 4, 5], &[9, 3, 6], &[11, 7]];
+    for largest in [0, 1, 100] {
+        let sheet = logic(&[&list(1, 0, 9, 0, largest)], &nodes, &[]);
+        for (node, size) in [1, 1, 3, 4, 1, 1, 3, 8, 9].into_iter().enumerate() {
+            assert_eq!(tree_size(&sheet, node as i64), good(size, 0));
+        }
+    }
+}
+
+#[test]
+fn operations_and_runs_over_lists() {
+    // Fact 0: a list of up to 3 Bools. Fact 1: a Bool with default 0. Operation 0: every element is true. The flow
+    // branches on "some element is true" and then performs the operation.
+    let end: [&[i64]; 3] = [&[1, 0], &[1, 1], &[1, 2]];
+    let sheet = sheet(
+        2,
+        [
+            &[&list(0, 0, 1, 0, 3), &[0, 0, 1, 1, 0]],
+            &[&[17, 0], &[14, 0, 0], &[17, 0], &[15, 0, 2]],
+            &[],
+            &[&[2, 0]],
+            &[&[0, 0, 1]],
+            &[&[1, 1, 0, 1, 1]],
+            &[&[0, 0, 1, 0]],
+            &[&[0, 2]],
+            &[&[1, 3, 0, 0, 2], &[0, 0, 0, 2, 2]],
+            &[&[0, 1], end[2], end[0], end[1]],
+        ],
+    );
+    assert_eq!(check(&sheet), good(0, 0));
+    const X: i64 = i64::MIN;
+    for (lists, length, operated, after, ran, path) in [
+        ([1, 1, 1], 3, good(0, 0), 1, good(0, 2), [0, 2]),
+        ([1, X, X], 1, good(0, 0), 1, good(0, 2), [0, 2]),
+        ([X, X, X], 0, good(0, 0), 1, good(2, 1), [1, 0]),
+        ([1, 0, X], 2, refused(10, 0), 0, good(1, 2), [0, 3]),
+        ([0, 1, X], 2, refused(10, 0), 0, good(1, 2), [0, 3]),
+        ([1, 0, X], 1, good(0, 0), 1, good(0, 2), [0, 2]),
+        ([0, 0, 0], 3, refused(10, 0), 0, good(2, 1), [1, 0]),
+    ] {
+        let mut states = [0];
+        assert_eq!(operate(&sheet, &[X, 9], &[1, 0], &lists, &[length], &mut states, 0, 0, -1), operated, "{lists:?}");
+        assert_eq!(states, [after]);
+        let (mut states, mut buffer) = ([0], [7; 2]);
+        let answer = run(&sheet, &[X, 9], &[1, 0], &lists, &[length], &mut states, 0, &[-1, -1], &mut buffer);
+        assert_eq!((answer, buffer), (ran, path), "{lists:?} {length}");
+        assert_eq!(states, [(ran.value == 0) as i64]);
+    }
+    // In the order of the refusals: lengths, numbers, facts, states, persona.
+    let given = [1, 0];
+    for (slots, lengths, given, persona, operation, state, refusal) in [
+        (2, &[3][..], given, 9, 9, 9, refused(4, 0)),
+        (4, &[3], given, 9, 9, 9, refused(4, 0)),
+        (3, &[], given, 9, 9, 9, refused(4, 0)),
+        (3, &[3, 3], given, 9, 9, 9, refused(4, 0)),
+        (3, &[4], given, 2, 0, 9, refused(5, 0)),
+        (3, &[4], given, 0, 1, 9, refused(5, 0)),
+        (3, &[4], given, 1, 0, 9, refused(6, 0)),
+        (3, &[-1], given, 1, 0, 9, refused(6, 0)),
+        (3, &[3], [0, 0], 1, 0, 9, refused(7, 0)),
+        (3, &[3], [1, 2], 1, 0, 9, refused(6, 1)),
+        (3, &[3], given, 1, 0, 9, refused(8, 0)),
+        (3, &[3], given, 1, 0, 0, refused(9, 0)),
+        (3, &[3], given, 0, 0, 1, refused(11, 0)),
+        (3, &[3], given, 0, 0, 0, good(0, 0)),
+    ] {
+        let mut states = [state];
+        let lists = &[1; 4][..slots];
+        assert_eq!(
+            operate(&sheet, &[0, 0], &given, lists, lengths, &mut states, persona, operation, -1),
+            refusal,
+            "{slots} {lengths:?} {given:?}"
+        );
+        // A run has neither persona nor operation; its flow is 0, or one that does not exist.
+        let flow = if refusal.refusal == 5 { 1 } else { 0 };
+        if refusal.refusal <= 8 && refusal.refusal > 0 {
+            let (mut states, mut buffer) = ([state], [7; 2]);
+            let answer = run(&sheet, &[0, 0], &given, lists, lengths, &mut states, flow, &[-1, -1], &mut buffer);
+            assert_eq!((answer, states, buffer), (refusal, [state], [7; 2]), "{slots} {lengths:?} {given:?}");
+        }
+    }
 }

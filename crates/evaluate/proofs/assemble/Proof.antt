@@ -1,7 +1,7 @@
 -- `evaluate::assemble` meets its contract: by where its climb stops. Assumes nothing.
 use mathlib.Core.Path.{refl}
-use Rattle.tables.proofs.Bools.{tests}
 use Rattle.ladder.proofs.ClimbLaws.{passed, climbed-at, opened-at, stopped, worked}
+use Rattle.ladder.proofs.LentLaws.{all-lent}
 use Rattle.calls.specs.Evaluation.{assembleRungs}
 use borrow.Author.Needs.{needs}
 use Rattle.evaluate.proofs.assemble.Statement.{statement}
@@ -22,8 +22,8 @@ fill-defaults-requires c κs =
     let at-h = c .before .before in
     let at-climb-assemble = at-h .before .before in
     let w = climbed-at _ _ (at-climb-assemble .climb-assemble .ensures) (at-h .h .given .1) in
-    let q = simp tests at (passed (w .clear) .lengths) in
-    (opened-at _ refl (w .sheet) .sheet, q .0, q .1)
+    let q = all-lent (passed (w .clear) .lengths) in
+    (opened-at _ refl (w .sheet) .sheet, q .values, q .given)
 
 same-length : tie.Need-same-length
 same-length c = search needs

@@ -29,7 +29,7 @@ act-requires c κs =
     let at-h = c .before .before .before .before .before in
     let at-climb-operate = at-h .before .before in
     rw (c .before .before .num .ensures, c .before .num2 .ensures)
-    (asked _ _ _ _ _ _ _ (at-climb-operate .climb-operate .ensures) (at-h .h .given .1))
+    (asked _ _ _ _ _ _ (at-climb-operate .climb-operate .ensures) (at-h .h .given .1))
 
 same-length : tie.Need-same-length
 same-length c = search needs

@@ -2,6 +2,7 @@
 use mathlib.Core.Path.{refl}
 use Rattle.tables.proofs.Bools.{tests}
 use Rattle.ladder.proofs.ClimbLaws.{passed, climbed-at, opened-at, stopped, worked}
+use Rattle.ladder.proofs.LentLaws.{all-lent}
 use Rattle.calls.specs.Evaluation.{verdictsRungs}
 use borrow.Author.Needs.{needs}
 use Rattle.evaluate.proofs.verdicts.Statement.{statement}
@@ -24,7 +25,7 @@ judge-requires c κs =
     let w = climbed-at _ _ (at-climb-verdicts .climb-verdicts .ensures) (at-h .h .given .1) in
     let g = passed (w .clear) in
     let q = simp tests at (g .lengths) in
-    (record { sheet = opened-at _ refl (w .sheet) .sheet; all-values = q .0 .0; all-given = q .0 .1; faultless = g .facts }, q .1)
+    (record { sheet = opened-at _ refl (w .sheet) .sheet; all = all-lent (q .0); faultless = g .facts }, q .1)
 
 returns : tie.Need-returns
 returns c =

@@ -3,7 +3,7 @@ use native.Mathlib.Omega.{arith}
 use mathlib.Core.Path.{_∙_}
 use Rattle.signed.proofs.Fit.{back-of}
 use Rattle.facts.proofs.Filled.{Filled, none, more, done}
-use Rattle.facts.specs.Assembled.{valueTaken, assembled}
+use Rattle.facts.specs.Assembled.{valueTaken, assembledValues}
 use lib.ListN.{getD}
 use lib.IntN.{pos}
 use Prim.Native.Nat.{ℕ, _-_}
@@ -64,7 +64,7 @@ same-length : tie.Need-same-length Inv-loop μ-loop
 same-length c = search needs
 
 returns : tie.Need-returns Inv-loop μ-loop
-unfolding assembled
+unfolding assembledValues
 returns c = done _ _ _ _ _ _ (c .before .loop .inv) (c .loop-test .left)
 
 pub fill-defaults-spec : {M : Type 1} → statement M

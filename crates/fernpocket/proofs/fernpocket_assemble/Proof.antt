@@ -10,7 +10,7 @@ assemble-requires : tie.Need-assemble-requires
 assemble-requires c κs = search needs
 
 of-status-requires : tie.Need-of-status-requires
-of-status-requires c κs = rw (c .before .assemble .ensures .0) (assemble-small _ _ _)
+of-status-requires c κs = rw (c .before .assemble .ensures .0) (assemble-small _ _)
 
 same-length : tie.Need-same-length
 same-length c = search needs

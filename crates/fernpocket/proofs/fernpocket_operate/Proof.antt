@@ -11,7 +11,7 @@ operate-requires : tie.Need-operate-requires
 operate-requires c κs = search needs
 
 of-count-requires : tie.Need-of-count-requires
-of-count-requires c κs = rw (c .before .operate .ensures .0) (operate-small _ _ _ _ _ _ _)
+of-count-requires c κs = rw (c .before .operate .ensures .0) (operate-small _ _ _ _ _ _)
 
 same-length : tie.Need-same-length
 same-length c = search needs

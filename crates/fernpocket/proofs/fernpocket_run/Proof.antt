@@ -15,7 +15,7 @@ of-counted-requires c κs =
     let at-run = c .before .before .before in
     let at-start = at-run .before .before .before .before in
     rw (at-run .run .ensures .0)
-    (run-call-small _ _ _ _ _ _ (at-start .args .path .now))
+    (run-call-small _ _ _ _ _ (at-start .args .path .now))
 
 same-length : tie.Need-same-length
 same-length c = search needs

@@ -10,7 +10,7 @@ verdicts-requires : tie.Need-verdicts-requires
 verdicts-requires c κs = search needs
 
 of-status-requires : tie.Need-of-status-requires
-of-status-requires c κs = rw (c .before .verdicts .ensures .0) (verdicts-small _ _ _ _)
+of-status-requires c κs = rw (c .before .verdicts .ensures .0) (verdicts-small _ _ _)
 
 same-length : tie.Need-same-length
 same-length c = search needs

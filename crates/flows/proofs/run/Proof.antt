@@ -22,7 +22,7 @@ go-requires : tie.Need-go-requires
 go-requires c κs =
     let at-h = c .before .before .before .before in
     let at-climb-run = at-h .before .before in
-    rw (c .before .num .ensures) (going _ _ _ _ _ _ _ (at-climb-run .climb-run .ensures) (at-h .h .given .1))
+    rw (c .before .num .ensures) (going _ _ _ _ _ _ (at-climb-run .climb-run .ensures) (at-h .h .given .1))
 
 same-length : tie.Need-same-length
 same-length c = search needs

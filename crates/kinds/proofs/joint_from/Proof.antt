@@ -9,6 +9,7 @@ use Rattle.node.proofs.OneKind.{parent-rest, parent-other}
 use Rattle.signed.proofs.Fit.{back, back-of}
 use Rattle.kinds.specs.Inner.{Wide}
 use Rattle.kinds.proofs.SecondsLaws.{settle}
+use Rattle.kinds.proofs.SweepLaws.{unquantified}
 use borrow.Author.Needs.{needs}
 use Rattle.kinds.proofs.joint_from.Statement.{statement}
 use Rattle.kinds.proofs.joint_from.Tie as tie
@@ -42,16 +43,16 @@ not-true-requires c κs = search needs
 
 returns : tie.Need-returns
 unfolding rowOf
-returns c f u v =
+returns c f u v i b =
     let at-start = c .before .before in
-    settle _ _ f u v _ _ (rw (c .before .match .keys1) (omega arith))
+    settle _ _ f u v i _ _ b (rw (c .before .match .keys1) (omega arith))
     (rw (c .before .match .keys1, back-of (c .add .result) (c .add .ok), c .add .ensures, back (at-start .fits .x), back (at-start .fits .y)))
 
 returns-2 : tie.Need-returns-2
 unfolding rowOf
-returns-2 c f u v =
+returns-2 c f u v i b =
     let at-start = c .before .before in
-    settle _ _ f u v _ _ (rw (c .before .match .keys2) (omega arith))
+    settle _ _ f u v i _ _ b (rw (c .before .match .keys2) (omega arith))
     (rw (
       c .before .match .keys2,
       back-of (c .subtract .result) (c .subtract .ok),
@@ -62,10 +63,10 @@ returns-2 c f u v =
 
 returns-3 : tie.Need-returns-3
 unfolding rowOf
-returns-3 c f u v =
+returns-3 c f u v i b =
     let at-match = c .before .before in
     let at-start = at-match .before in
-    settle _ _ f u v _ _ (rw (at-match .match .keys3) (omega (arith, multiple-sort (at-start .args .w .w2) none)))
+    settle _ _ f u v i _ _ b (rw (at-match .match .keys3) (omega (arith, multiple-sort (at-start .args .w .w2) none)))
     (rw (
       at-match .match .keys3,
       back-of (c .multiply .result) (c .multiply .ok),
@@ -76,9 +77,9 @@ returns-3 c f u v =
 
 returns-4 : tie.Need-returns-4
 unfolding rowOf
-returns-4 c f u v =
+returns-4 c f u v i b =
     let at-start = c .before .before in
-    settle _ _ f u v _ _ (rw (c .before .match .keys4) (omega arith))
+    settle _ _ f u v i _ _ b (rw (c .before .match .keys4) (omega arith))
     (rw (
       c .before .match .keys4,
       back-of (c .compare .result) (c .compare .ok),
@@ -88,13 +89,13 @@ returns-4 c f u v =
     ))
 
 returns-5 : tie.Need-returns-5
-returns-5 c f u v = absurd (parent-other _ _ (c .before .pre .some) .1 (c .match .keys5))
+returns-5 c f u v i b = absurd (parent-other _ _ (c .before .pre .some) .1 (c .match .keys5))
 
 returns-6 : tie.Need-returns-6
 unfolding rowOf
-returns-6 c f u v =
+returns-6 c f u v i b =
     let at-start = c .before .before in
-    settle _ _ f u v _ _ (rw (c .before .match .keys6) (omega arith))
+    settle _ _ f u v i _ _ b (rw (c .before .match .keys6) (omega arith))
     (rw (
       c .before .match .keys6,
       back-of (c .both-true .result) (c .both-true .ok),
@@ -105,9 +106,9 @@ returns-6 c f u v =
 
 returns-7 : tie.Need-returns-7
 unfolding rowOf
-returns-7 c f u v =
+returns-7 c f u v i b =
     let at-start = c .before .before in
-    settle _ _ f u v _ _ (rw (c .before .match .keys7) (omega arith))
+    settle _ _ f u v i _ _ b (rw (c .before .match .keys7) (omega arith))
     (rw (
       c .before .match .keys7,
       back-of (c .either-true .result) (c .either-true .ok),
@@ -118,24 +119,26 @@ returns-7 c f u v =
 
 returns-8 : tie.Need-returns-8
 unfolding rowOf
-returns-8 c f u v =
+returns-8 c f u v i b =
     let at-start = c .before .before in
-    settle _ _ f u v _ _ (rw (c .before .match .keys8) (omega arith))
+    settle _ _ f u v i _ _ b (rw (c .before .match .keys8) (omega arith))
     (rw (c .before .match .keys8, back-of (c .not-true .result) (c .not-true .ok), c .not-true .ensures, back (at-start .fits .x)))
 
 returns-9 : tie.Need-returns-9
-returns-9 c f u v =
+returns-9 c f u v i b =
     let at-start = c .before .before in
     let x = c .before .match .rest in
+    let q = unquantified _ _ (at-start .pre .plain) in
     absurd (parent-rest _ _ (x .0 .0 .0 .0 .0 .0 .0 .1) (x .0 .0 .0 .0 .0 .0 .1) (x .0 .0 .0 .0 .0 .1) (x .0 .0 .0 .0 .1) (x .0 .0 .1) (x .0 .1)
-    (x .1) (at-start .pre .some))
+    (x .1) (q .0) (q .1) (at-start .pre .some))
 
 returns-10 : tie.Need-returns-10
-returns-10 c f u v =
+returns-10 c f u v i b =
     let at-start = c .before .before in
     let x = c .before .match .rest in
+    let q = unquantified _ _ (at-start .pre .plain) in
     absurd (parent-rest _ _ (x .0 .0 .0 .0 .0 .0 .0 .1) (x .0 .0 .0 .0 .0 .0 .1) (x .0 .0 .0 .0 .0 .1) (x .0 .0 .0 .0 .1) (x .0 .0 .1) (x .0 .1)
-    (x .1) (at-start .pre .some))
+    (x .1) (q .0) (q .1) (at-start .pre .some))
 
 pub joint-from-spec : {M : Type 1} → statement M
 joint-from-spec =

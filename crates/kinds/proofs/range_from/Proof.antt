@@ -9,17 +9,17 @@ use Rattle.kinds.proofs.range_from.Tie as tie
 
 literal-range-requires : tie.Need-literal-range-requires
 literal-range-requires c κs =
-    let at-start = c .before .before .before .before .before in
+    let at-start = c .before .before .before .before .before .before in
     (search needs, part-taken _ _ (at-start .pre .1) (rw (c .match .keys1)))
 
 literal-range-requires-2 : tie.Need-literal-range-requires-2
 literal-range-requires-2 c κs =
-    let at-start = c .before .before .before .before .before in
+    let at-start = c .before .before .before .before .before .before in
     (search needs, part-taken _ _ (at-start .pre .1) (rw (c .match .keys2)))
 
 literal-range-requires-3 : tie.Need-literal-range-requires-3
 literal-range-requires-3 c κs =
-    let at-start = c .before .before .before .before .before in
+    let at-start = c .before .before .before .before .before .before in
     (search needs, part-taken _ _ (at-start .pre .1) (rw (c .match .keys3)))
 
 sum-requires : tie.Need-sum-requires
@@ -30,7 +30,7 @@ difference-requires c κs = search needs
 
 multiple-requires : tie.Need-multiple-requires
 multiple-requires c κs =
-    let at-start = c .before .before .before .before .before .before in (
+    let at-start = c .before .before .before .before .before .before .before in (
       rw (back-of (at-start .args .g .words .w2) (c .struct-told .given .1 .1 .0 .1)) (product-part _ _ (at-start .pre .1) (c .before .match .keys7)),
       at-start .pre .0 .x,
     )
@@ -55,16 +55,25 @@ negation-requires c κs = search needs
 
 literal-range-requires-4 : tie.Need-literal-range-requires-4
 literal-range-requires-4 c κs =
-    let at-start = c .before .before .before .before .before in
+    let at-start = c .before .before .before .before .before .before in
     (search needs, part-taken _ _ (at-start .pre .1) (rw (c .match .keys13)))
 
 literal-range-requires-5 : tie.Need-literal-range-requires-5
 literal-range-requires-5 c κs =
-    let at-start = c .before .before .before .before .before in
+    let at-start = c .before .before .before .before .before .before in
     (search needs, part-taken _ _ (at-start .pre .1) (rw (c .match .keys14)))
 
 span-requires-2 : tie.Need-span-requires-2
 span-requires-2 c κs = search needs
+
+span-requires-3 : tie.Need-span-requires-3
+span-requires-3 c κs = search needs
+
+span-requires-4 : tie.Need-span-requires-4
+span-requires-4 c κs = search needs
+
+span-requires-5 : tie.Need-span-requires-5
+span-requires-5 c κs = search needs
 
 returns : tie.Need-returns
 unfolding rowOf
@@ -94,7 +103,7 @@ returns-7 : tie.Need-returns-7
 unfolding rowOf
 returns-7 c =
     let at-match = c .before .before in
-    let at-start = at-match .before .before .before .before .before in
+    let at-start = at-match .before .before .before .before .before .before in
     rw (at-match .match .keys7, c .multiple .ensures, back-of (at-start .args .g .words .w2) (c .before .struct-told .given .1 .1 .0 .1))
 
 returns-8 : tie.Need-returns-8
@@ -102,7 +111,7 @@ unfolding rowOf
 returns-8 c =
     let at-struct-told2 = c .before .before in
     let at-match = at-struct-told2 .before in
-    let at-start = at-match .before .before .before .before .before in
+    let at-start = at-match .before .before .before .before .before .before in
     rw (
       at-match .match .keys8,
       c .compared .ensures,
@@ -135,7 +144,26 @@ unfolding rowOf
 returns-14 c = rw (c .before .match .keys14, c .literal-range5 .ensures)
 
 returns-15 : tie.Need-returns-15
-returns-15 c = rw (row-past _ (past 14 _ (c .before .match .rest)), c .span2 .ensures)
+unfolding rowOf
+returns-15 c = rw (c .before .match .keys15, c .span2 .ensures)
+
+returns-16 : tie.Need-returns-16
+unfolding rowOf
+returns-16 c = rw (c .before .match .keys16, c .span3 .ensures)
+
+returns-17 : tie.Need-returns-17
+unfolding rowOf
+returns-17 c =
+    let at-match = c .before .before in
+    let at-start = at-match .before .before .before .before .before .before in
+    rw (at-match .match .keys17, c .span4 .ensures, back-of (at-start .args .g .fact .most) (c .before .struct-told3 .given .1 .1 .0 .1))
+
+returns-18 : tie.Need-returns-18
+unfolding rowOf
+returns-18 c = rw (c .match .keys18)
+
+returns-19 : tie.Need-returns-19
+returns-19 c = rw (row-past _ (past 18 _ (c .before .match .rest)), c .span5 .ensures)
 
 pub range-from-spec : {M : Type 1} → statement M
 range-from-spec =
@@ -156,6 +184,9 @@ range-from-spec =
     literal-range-requires-4
     literal-range-requires-5
     span-requires-2
+    span-requires-3
+    span-requires-4
+    span-requires-5
     returns
     returns-2
     returns-3
@@ -170,4 +201,8 @@ range-from-spec =
     returns-12
     returns-13
     returns-14
-    returns-15)
+    returns-15
+    returns-16
+    returns-17
+    returns-18
+    returns-19)

@@ -1,7 +1,6 @@
 -- `ladder::then_facts` meets its contract: the rungs so far, or what the facts give. Assumes nothing.
-use native.Mathlib.Omega.{arith}
-use Rattle.tables.proofs.Bools.{tests}
 use Rattle.ladder.proofs.ClimbLaws.{then-stop, then-go}
+use Rattle.ladder.proofs.LentLaws.{all-lent}
 use borrow.Author.Needs.{needs}
 use Rattle.ladder.proofs.then_facts.Statement.{statement}
 use Rattle.ladder.proofs.then_facts.Tie as tie
@@ -15,7 +14,7 @@ enum-told c = search needs
 judge-facts-requires : tie.Need-judge-facts-requires
 judge-facts-requires c κs =
     let at-start = c .before .before in
-    let q = simp tests at (at-start .pre .1 (c .enum-told .given .1)) in (at-start .pre .0, omega arith, omega arith)
+    (at-start .pre .0, all-lent (at-start .pre .1 (c .enum-told .given .1)))
 
 returns : tie.Need-returns
 returns c = then-stop _ (c .before .t .given .1)

@@ -1,6 +1,8 @@
 -- `node::children` meets its contract. Assumes nothing.
+use mathlib.Core.Path.{_∙_}
 use Prim.Native.Nat.{zero-le}
-use Rattle.node.proofs.Judged.{past, row-past}
+use Rattle.node.proofs.Judged.{past}
+use Rattle.node.proofs.OneKind.{leaf-past}
 use Rattle.node.specs.Rows.{rowOf}
 use borrow.Author.Needs.{needs}
 use Rattle.node.proofs.children.Statement.{statement}
@@ -47,6 +49,12 @@ no-kids-requires-6 c κs = search needs
 
 no-kids-requires-7 : tie.Need-no-kids-requires-7
 no-kids-requires-7 c κs = search needs
+
+later-kid-requires : tie.Need-later-kid-requires
+later-kid-requires c κs = search needs
+
+later-kid-requires-2 : tie.Need-later-kid-requires-2
+later-kid-requires-2 c κs = search needs
 
 no-kids-requires-8 : tie.Need-no-kids-requires-8
 no-kids-requires-8 c κs = search needs
@@ -108,7 +116,15 @@ unfolding rowOf
 returns-14 c = rw (c .before .match .keys14) (c .no-kids7 .ensures)
 
 returns-15 : tie.Need-returns-15
-returns-15 c = rw (row-past _ (past 14 _ (c .before .match .rest))) (c .no-kids8 .ensures)
+unfolding rowOf
+returns-15 c = rw (c .before .match .keys15) (c .later-kid .ensures)
+
+returns-16 : tie.Need-returns-16
+unfolding rowOf
+returns-16 c = rw (c .before .match .keys16) (c .later-kid2 .ensures)
+
+returns-17 : tie.Need-returns-17
+returns-17 c = c .no-kids8 .ensures ∙ leaf-past _ _ (past 16 _ (c .before .match .rest))
 
 pub children-spec : {M : Type 1} → statement M
 children-spec =
@@ -128,6 +144,8 @@ children-spec =
     one-kid-requires-2
     no-kids-requires-6
     no-kids-requires-7
+    later-kid-requires
+    later-kid-requires-2
     no-kids-requires-8
     returns
     returns-2
@@ -143,4 +161,6 @@ children-spec =
     returns-12
     returns-13
     returns-14
-    returns-15)
+    returns-15
+    returns-16
+    returns-17)

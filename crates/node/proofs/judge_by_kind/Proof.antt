@@ -1,7 +1,8 @@
 -- `node::judge_by_kind` meets its contract. Assumes nothing.
 use mathlib.Core.Path.{refl}
 use Rattle.node.proofs.OneKind.{parent-rest, parent-other}
-use Rattle.node.specs.Rows.{rowOf}
+use Rattle.node.specs.Rows.{rowOf, fits}
+use Rattle.node.specs.Judged.{judged}
 use borrow.Author.Needs.{needs}
 use Rattle.node.proofs.judge_by_kind.Statement.{statement}
 use Rattle.node.proofs.judge_by_kind.Tie as tie
@@ -30,11 +31,20 @@ negated-requires c κs = search needs
 bad-requires : tie.Need-bad-requires
 bad-requires c κs = search needs
 
+quantifier-requires : tie.Need-quantifier-requires
+quantifier-requires c κs = search needs
+
+quantifier-requires-2 : tie.Need-quantifier-requires-2
+quantifier-requires-2 c κs = search needs
+
 bad-requires-2 : tie.Need-bad-requires-2
 bad-requires-2 c κs = search needs
 
 bad-requires-3 : tie.Need-bad-requires-3
 bad-requires-3 c κs = search needs
+
+bad-requires-4 : tie.Need-bad-requires-4
+bad-requires-4 c κs = search needs
 
 returns : tie.Need-returns
 unfolding rowOf
@@ -68,20 +78,36 @@ unfolding rowOf
 returns-8 c = rw (c .before .match .keys8, c .negated .ensures)
 
 returns-9 : tie.Need-returns-9
-returns-9 c =
-    let at-match = c .before .before in
-    let at-start = at-match .before in
-    let x = at-match .match .rest in
-    absurd (parent-rest _ _ (x .0 .0 .0 .0 .0 .0 .0 .1) (x .0 .0 .0 .0 .0 .0 .1) (x .0 .0 .0 .0 .0 .1) (x .0 .0 .0 .0 .1) (x .0 .0 .1) (x .0 .1)
-    (x .1) (at-start .pre .1))
+unfolding rowOf
+returns-9 c = rw (c .before .match .keys9, c .quantifier .ensures)
 
 returns-10 : tie.Need-returns-10
-returns-10 c =
+unfolding rowOf judged fits
+returns-10 c = rw (c .before .match .keys10, c .quantifier2 .ensures)
+
+returns-11 : tie.Need-returns-11
+returns-11 c =
     let at-match = c .before .before in
     let at-start = at-match .before in
     let x = at-match .match .rest in
-    absurd (parent-rest _ _ (x .0 .0 .0 .0 .0 .0 .0 .1) (x .0 .0 .0 .0 .0 .0 .1) (x .0 .0 .0 .0 .0 .1) (x .0 .0 .0 .0 .1) (x .0 .0 .1) (x .0 .1)
-    (x .1) (at-start .pre .1))
+    absurd (parent-rest _ _ (x .0 .0 .0 .0 .0 .0 .0 .0 .0 .1) (x .0 .0 .0 .0 .0 .0 .0 .0 .1) (x .0 .0 .0 .0 .0 .0 .0 .1) (x .0 .0 .0 .0 .0 .0 .1)
+    (x .0 .0 .0 .0 .1) (x .0 .0 .0 .1) (x .0 .0 .1) (x .0 .1) (x .1) (at-start .pre .1))
+
+returns-12 : tie.Need-returns-12
+returns-12 c =
+    let at-match = c .before .before .before in
+    let at-start = at-match .before in
+    let x = at-match .match .rest in
+    absurd (parent-rest _ _ (x .0 .0 .0 .0 .0 .0 .0 .0 .0 .1) (x .0 .0 .0 .0 .0 .0 .0 .0 .1) (x .0 .0 .0 .0 .0 .0 .0 .1) (x .0 .0 .0 .0 .0 .0 .1)
+    (x .0 .0 .0 .0 .1) (x .0 .0 .0 .1) (x .0 .0 .1) (x .0 .1) (x .1) (at-start .pre .1))
+
+returns-13 : tie.Need-returns-13
+returns-13 c =
+    let at-match = c .before .before .before in
+    let at-start = at-match .before in
+    let x = at-match .match .rest in
+    absurd (parent-rest _ _ (x .0 .0 .0 .0 .0 .0 .0 .0 .0 .1) (x .0 .0 .0 .0 .0 .0 .0 .0 .1) (x .0 .0 .0 .0 .0 .0 .0 .1) (x .0 .0 .0 .0 .0 .0 .1)
+    (x .0 .0 .0 .0 .1) (x .0 .0 .0 .1) (x .0 .0 .1) (x .0 .1) (x .1) (at-start .pre .1))
 
 pub judge-by-kind-spec : {M : Type 1} → statement M
 judge-by-kind-spec = tie.close (tie.spec
@@ -93,8 +119,11 @@ judge-by-kind-spec = tie.close (tie.spec
     conjunction-requires
     disjunction-requires
     negated-requires
+    quantifier-requires
+    quantifier-requires-2
     bad-requires-2
     bad-requires-3
+    bad-requires-4
     returns
     returns-2
     returns-3
@@ -104,4 +133,7 @@ judge-by-kind-spec = tie.close (tie.spec
     returns-7
     returns-8
     returns-9
-    returns-10)
+    returns-10
+    returns-11
+    returns-12
+    returns-13)

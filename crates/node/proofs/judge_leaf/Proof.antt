@@ -27,6 +27,12 @@ literal-requires-4 c κs = search needs
 literal-requires-5 : tie.Need-literal-requires-5
 literal-requires-5 c κs = search needs
 
+list-length-requires : tie.Need-list-length-requires
+list-length-requires c κs = search needs
+
+list-element-requires : tie.Need-list-element-requires
+list-element-requires c κs = search needs
+
 bad-requires : tie.Need-bad-requires
 bad-requires c κs = search needs
 
@@ -35,6 +41,9 @@ bad-requires-2 c κs = search needs
 
 bad-requires-3 : tie.Need-bad-requires-3
 bad-requires-3 c κs = search needs
+
+bad-requires-4 : tie.Need-bad-requires-4
+bad-requires-4 c κs = search needs
 
 returns : tie.Need-returns
 unfolding rowOf
@@ -65,28 +74,44 @@ unfolding rowOf
 returns-7 c = rw (c .before .match .keys7, c .literal5 .ensures)
 
 returns-8 : tie.Need-returns-8
-returns-8 c =
-    let at-match = c .before .before in
-    let at-start = at-match .before in
-    let x = at-match .match .rest in
-    rw (c .bad .ensures) (leaf-rest _ _ (x .0 .0 .0 .0 .0 .0 .1) (x .0 .0 .0 .0 .0 .1) (x .0 .0 .0 .0 .1) (x .0 .0 .0 .1) (x .0 .0 .1) (x .0 .1) (x .1)
-    (at-start .pre))
+unfolding rowOf
+returns-8 c = rw (c .before .match .keys8, c .list-length .ensures)
 
 returns-9 : tie.Need-returns-9
-returns-9 c =
-    let at-match = c .before .before .before in
-    let at-start = at-match .before in
-    let x = at-match .match .rest in
-    rw (c .bad2 .ensures) (leaf-rest _ _ (x .0 .0 .0 .0 .0 .0 .1) (x .0 .0 .0 .0 .0 .1) (x .0 .0 .0 .0 .1) (x .0 .0 .0 .1) (x .0 .0 .1) (x .0 .1) (x .1)
-    (at-start .pre))
+unfolding rowOf
+returns-9 c = rw (c .before .match .keys9, c .list-element .ensures)
 
 returns-10 : tie.Need-returns-10
 returns-10 c =
+    let at-match = c .before .before in
+    let at-start = at-match .before in
+    let x = at-match .match .rest in
+    rw (c .bad .ensures) (leaf-rest _ _ (x .0 .0 .0 .0 .0 .0 .0 .0 .1) (x .0 .0 .0 .0 .0 .0 .0 .1) (x .0 .0 .0 .0 .0 .0 .1) (x .0 .0 .0 .0 .0 .1)
+    (x .0 .0 .0 .0 .1) (x .0 .0 .0 .1) (x .0 .0 .1) (x .0 .1) (x .1) (at-start .pre))
+
+returns-11 : tie.Need-returns-11
+returns-11 c =
     let at-match = c .before .before .before in
     let at-start = at-match .before in
     let x = at-match .match .rest in
-    rw (c .bad3 .ensures) (leaf-rest _ _ (x .0 .0 .0 .0 .0 .0 .1) (x .0 .0 .0 .0 .0 .1) (x .0 .0 .0 .0 .1) (x .0 .0 .0 .1) (x .0 .0 .1) (x .0 .1) (x .1)
-    (at-start .pre))
+    rw (c .bad2 .ensures) (leaf-rest _ _ (x .0 .0 .0 .0 .0 .0 .0 .0 .1) (x .0 .0 .0 .0 .0 .0 .0 .1) (x .0 .0 .0 .0 .0 .0 .1) (x .0 .0 .0 .0 .0 .1)
+    (x .0 .0 .0 .0 .1) (x .0 .0 .0 .1) (x .0 .0 .1) (x .0 .1) (x .1) (at-start .pre))
+
+returns-12 : tie.Need-returns-12
+returns-12 c =
+    let at-match = c .before .before .before .before in
+    let at-start = at-match .before in
+    let x = at-match .match .rest in
+    rw (c .bad3 .ensures) (leaf-rest _ _ (x .0 .0 .0 .0 .0 .0 .0 .0 .1) (x .0 .0 .0 .0 .0 .0 .0 .1) (x .0 .0 .0 .0 .0 .0 .1) (x .0 .0 .0 .0 .0 .1)
+    (x .0 .0 .0 .0 .1) (x .0 .0 .0 .1) (x .0 .0 .1) (x .0 .1) (x .1) (at-start .pre))
+
+returns-13 : tie.Need-returns-13
+returns-13 c =
+    let at-match = c .before .before .before .before in
+    let at-start = at-match .before in
+    let x = at-match .match .rest in
+    rw (c .bad4 .ensures) (leaf-rest _ _ (x .0 .0 .0 .0 .0 .0 .0 .0 .1) (x .0 .0 .0 .0 .0 .0 .0 .1) (x .0 .0 .0 .0 .0 .0 .1) (x .0 .0 .0 .0 .0 .1)
+    (x .0 .0 .0 .0 .1) (x .0 .0 .0 .1) (x .0 .0 .1) (x .0 .1) (x .1) (at-start .pre))
 
 pub judge-leaf-spec : {M : Type 1} → statement M
 judge-leaf-spec = tie.close (tie.spec
@@ -97,9 +122,12 @@ judge-leaf-spec = tie.close (tie.spec
     present-requires
     literal-requires-4
     literal-requires-5
+    list-length-requires
+    list-element-requires
     bad-requires
     bad-requires-2
     bad-requires-3
+    bad-requires-4
     returns
     returns-2
     returns-3
@@ -109,4 +137,7 @@ judge-leaf-spec = tie.close (tie.spec
     returns-7
     returns-8
     returns-9
-    returns-10)
+    returns-10
+    returns-11
+    returns-12
+    returns-13)

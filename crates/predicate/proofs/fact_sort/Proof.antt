@@ -1,6 +1,6 @@
 -- `predicate::fact_sort` meets its contract. Assumes nothing.
 use mathlib.Core.Path.{ap}
-use Rattle.item.specs.declared.Item.{Item}
+use Rattle.node.specs.declared.Named.{Named}
 use Rattle.records.proofs.FactLaws.{good-facts}
 use borrow.Author.Needs.{needs}
 use Rattle.predicate.proofs.fact_sort.Statement.{statement}
@@ -10,7 +10,7 @@ named-fact-requires : tie.Need-named-fact-requires
 named-fact-requires c κs = good-facts (c .before .pre .accepted .sized) (c .before .pre .accepted .facts) (c .before .pre .first)
 
 returns : tie.Need-returns
-returns c e = ap (λ (x : Item). x .sort) (c .named-fact .ensures)
+returns c e = ap (λ (x : Named). x .item .sort) (c .before .named-fact .ensures)
 
 returns-2 : tie.Need-returns-2
 returns-2 c e = absurd (c .if1 .left e)

@@ -1,6 +1,7 @@
 -- `predicate::fill_verdicts` meets its contract: the verdicts passed are stored. Assumes nothing.
 use Rattle.node.specs.Rows.{bit}
 use Rattle.words.specs.Record.{recordAt}
+use Rattle.facts.specs.Inner.{held}
 use Rattle.signed.proofs.Fit.{back-of}
 use lib.Seq.{length-take-le}
 use mathlib.Core.Path.{sym, ap, _∙_}
@@ -11,10 +12,10 @@ use Rattle.predicate.proofs.fill_verdicts.Statement.{statement}
 use Rattle.predicate.proofs.fill_verdicts.Tie as tie
 
 abbrev Inv-loop : tie.InvT-loop
-Inv-loop s h facts out₀ rules first k₀ out k = Judged s h facts rules k out
+Inv-loop s h facts lists out₀ rules first k₀ out k = Judged s h (held s facts lists) rules k out
 
 abbrev μ-loop : tie.MeasureT-loop
-μ-loop s h facts out₀ rules first k₀ out k = rules - k
+μ-loop s h facts lists out₀ rules first k₀ out k = rules - k
 
 add-first : tie.Need-add-first Inv-loop μ-loop
 add-first c = search needs
@@ -45,8 +46,8 @@ is-true-requires c κs =
 bit-requires : tie.Need-bit-requires Inv-loop μ-loop
 bit-requires c κs = search needs
 
-mul-t11 : tie.Need-mul-t11 Inv-loop μ-loop
-mul-t11 c = search needs
+mul-t12 : tie.Need-mul-t12 Inv-loop μ-loop
+mul-t12 c = search needs
 
 slice-set-from-out : tie.Need-slice-set-from-out Inv-loop μ-loop
 slice-set-from-out c = search needs
@@ -86,7 +87,7 @@ fill-verdicts-spec =
     slice-aggregate-is-true
     is-true-requires
     bit-requires
-    mul-t11
+    mul-t12
     slice-set-from-out
     add-k
     loop-less

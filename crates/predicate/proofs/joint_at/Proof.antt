@@ -24,7 +24,7 @@ joint-from-requires c κs =
     ) (at-start .pre .1)
 
 returns : tie.Need-returns
-returns c base facts verdicts =
+returns c base facts verdicts e body =
     let at-struct-told = c .before .before in
     let at-words-at = at-struct-told .before in
     let at-start = at-words-at .before in
@@ -35,7 +35,7 @@ returns c base facts verdicts =
       c .before .num .ensures,
       back-of (at-words-at .words-at .result .w0) (at-struct-told .struct-told .given .0 .1),
       at-words-at .words-at .ensures,
-    ) at (c .joint-from .ensures) _ facts verdicts
+    ) at (c .joint-from .ensures) _ facts verdicts e body
 
 pub joint-at-spec : {M : Type 1} → statement M
 joint-at-spec = tie.close (tie.spec words-at-requires num-requires joint-from-requires returns)

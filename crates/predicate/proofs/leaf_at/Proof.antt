@@ -26,10 +26,10 @@ leaf-from-requires c κs =
     let at-words-at = at-struct-told .before in
     let at-start = at-words-at .before in
     rw (at-num .num .ensures, back-of (at-words-at .words-at .result .w0) (at-struct-told .struct-told .given .0 .1), at-words-at .words-at .ensures)
-    (at-start .pre .1)
+    (at-start .pre .1 .0)
 
 returns : tie.Need-returns
-returns c =
+returns c body =
     let at-num2 = c .before .before in
     let at-struct-told2 = at-num2 .before in
     let at-num = at-struct-told2 .before in
@@ -47,7 +47,7 @@ returns c =
       at-num .num .ensures,
       back-of (at-words-at .words-at .result .w0) (at-struct-told .struct-told .given .0 .1),
       at-words-at .words-at .ensures,
-    ) at (c .leaf-from .ensures) _ fact
+    ) at (c .leaf-from .ensures) _ _ body fact (c .before .before .before .before .before .before .before .pre .1 .1)
 
 pub leaf-at-spec : {M : Type 1} → statement M
 leaf-at-spec =

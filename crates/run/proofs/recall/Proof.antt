@@ -17,12 +17,12 @@ returns c =
 slice-read-if2 : tie.Need-slice-read-if2
 slice-read-if2 c =
     let at-start = c .before .before .before .before .before in
-    omega (arith, at-start .pre .1 .0 .0, at-start .pre .0 .over .accepted .sized .limits .operations, at-start .pre .1 .1 .known-long)
+    omega (arith, at-start .pre .1 .0 .0, at-start .pre .0 .accepted .sized .limits .operations, at-start .pre .1 .1 .known-long)
 
 slice-read-result : tie.Need-slice-read-result
 slice-read-result c =
     let at-start = c .before .before .before .before .before .before .before in
-    omega (arith, at-start .pre .1 .0 .0, at-start .pre .0 .over .accepted .sized .limits .operations, at-start .pre .1 .1 .holds-long)
+    omega (arith, at-start .pre .1 .0 .0, at-start .pre .0 .accepted .sized .limits .operations, at-start .pre .1 .1 .holds-long)
 
 returns-2 : tie.Need-returns-2
 returns-2 c =
@@ -39,12 +39,12 @@ precondition-holds-requires c κs =
 slice-write-holds : tie.Need-slice-write-holds
 slice-write-holds c =
     let at-start = c .before .before .before .before .before .before .before in
-    omega (arith, at-start .pre .1 .0 .0, at-start .pre .0 .over .accepted .sized .limits .operations, at-start .pre .1 .1 .holds-long)
+    omega (arith, at-start .pre .1 .0 .0, at-start .pre .0 .accepted .sized .limits .operations, at-start .pre .1 .1 .holds-long)
 
 slice-write-known : tie.Need-slice-write-known
 slice-write-known c =
     let at-start = c .before .before .before .before .before .before .before in
-    omega (arith, at-start .pre .1 .0 .0, at-start .pre .0 .over .accepted .sized .limits .operations, at-start .pre .1 .1 .known-long)
+    omega (arith, at-start .pre .1 .0 .0, at-start .pre .0 .accepted .sized .limits .operations, at-start .pre .1 .1 .known-long)
 
 same-length : tie.Need-same-length
 same-length c = search needs
@@ -58,7 +58,7 @@ returns-3 c =
     let at-allows = at-if1 .before in
     let at-start = at-allows .before .before .before in (
       admitted _ (at-allows .allows .ensures) (at-if1 .if1 .left) (c .precondition-holds .ensures),
-      memo-more (at-start .pre .1 .1) _ _ (omega (arith, at-start .pre .1 .0 .0, at-start .pre .0 .over .accepted .sized .limits .operations))
+      memo-more (at-start .pre .1 .1) _ _ (omega (arith, at-start .pre .1 .0 .0, at-start .pre .0 .accepted .sized .limits .operations))
           (c .precondition-holds .ensures),
     )
 

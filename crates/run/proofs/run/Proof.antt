@@ -17,6 +17,7 @@ use Rattle.run.proofs.RunLoop.{
   run-done,
 }
 use Rattle.records.specs.Flows.{flowOf}
+use Rattle.facts.specs.Inner.{held}
 use mathlib.Core.Path.{sym, _∙_}
 use Prim.Native.Nat.{_-_}
 use lib.ListN.{length}
@@ -26,11 +27,12 @@ use Rattle.run.proofs.run.Statement.{statement}
 use Rattle.run.proofs.run.Tie as tie
 
 abbrev Inv-loop : tie.InvT-loop
-Inv-loop s h facts verdicts states₀ words path₀ known₀ holds₀ w₀ first states path known holds w =
-    Ongoing s h facts verdicts states₀ (flowOf s h (w₀ .step)) words path₀ states path w × Memo s h facts verdicts known holds
+Inv-loop s h facts lists verdicts states₀ words path₀ known₀ holds₀ w₀ first states path known holds w =
+    Ongoing s h (held s facts lists) verdicts states₀ (flowOf s h (w₀ .step)) words path₀ states path w
+    × Memo s h (held s facts lists) verdicts known holds
 
 abbrev μ-loop : tie.MeasureT-loop
-μ-loop s h facts verdicts states₀ words path₀ known₀ holds₀ w₀ first states path known holds w = length path₀ - w .length
+μ-loop s h facts lists verdicts states₀ words path₀ known₀ holds₀ w₀ first states path known holds w = length path₀ - w .length
 
 start-requires : tie.Need-start-requires Inv-loop μ-loop
 start-requires c κs = (c .before .pre .0 .lent .sheet .sized, c .before .pre .0 .lent .flow)

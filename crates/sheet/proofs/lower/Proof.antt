@@ -39,7 +39,7 @@ check-routes-requires c κs =
     let at-check-steps = c .before .before .before .before .before in
     let at-if1 = at-check-steps .before .before in
     let at-check-flows = at-if1 .before .before in
-    let at-start = at-check-flows .before .before .before in
+    let at-start = at-check-flows .before .before .before .before in
     record {
       sized = at-start .pre .0;
       groups = at-start .pre .1;
@@ -49,7 +49,7 @@ check-routes-requires c κs =
 
 add-result-3 : tie.Need-add-result-3
 add-result-3 c =
-    let at-start = c .before .before .before .before .before .before .before .before .before .before .before .before .before in
+    let at-start = c .before .before .before .before .before .before .before .before .before .before .before .before .before .before in
     omega (arith, at-start .pre .0 .limits, at-most _ _ (c .check-routes .ensures))
 
 same-length-2 : tie.Need-same-length-2
@@ -61,7 +61,7 @@ returns-3 c =
     let at-check-steps = at-if2 .before .before .before .before in
     let at-if1 = at-check-steps .before .before in
     let at-check-flows = at-if1 .before .before in
-    let at-start = at-check-flows .before .before .before in
+    let at-start = at-check-flows .before .before .before .before in
     subst (λ (n : ℕ). First (lowerTables (at-start .args .s .now) (at-start .args .h)) n) (omega arith)
     (pass _ _ (at-check-flows .check-flows .ensures) (at-if1 .if1 .left)
     (pass _ _ (at-check-steps .check-steps .ensures) (at-if2 .if2 .left) (last-one _ (c .check-routes .ensures))))

@@ -13,7 +13,7 @@ slice-aggregate-middle-on-2 c = search needs
 middle-on-requires : tie.Need-middle-on-requires
 middle-on-requires c κs =
     let at-if1 = c .before .before .before in
-    let at-start = at-if1 .before .before .before .before in
+    let at-start = at-if1 .before .before .before .before .before in
     (at-start .pre .0, at-start .pre .1, at-start .pre .2, unmarked 4 (at-if1 .if1 .taken))
 
 slice-aggregate-middle-on-3 : tie.Need-slice-aggregate-middle-on-3
@@ -24,7 +24,7 @@ slice-aggregate-middle-on-4 c = search needs
 
 middle-on-requires-2 : tie.Need-middle-on-requires-2
 middle-on-requires-2 c κs =
-    let at-start = c .before .before .before .before .before .before .before in
+    let at-start = c .before .before .before .before .before .before .before .before in
     (at-start .pre .0, at-start .pre .1, at-start .pre .2, unmarked 32 (at-start .pre .0 .limits .entities))
 
 same-length : tie.Need-same-length

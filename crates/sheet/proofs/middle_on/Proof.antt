@@ -20,7 +20,7 @@ returns c =
 check-transitions-requires : tie.Need-check-transitions-requires
 check-transitions-requires c κs =
     let at-check-entities = c .before .before .before in
-    let at-start = at-check-entities .before .before .before .before .before in (
+    let at-start = at-check-entities .before .before .before .before .before .before in (
       at-start .pre .0,
       passed _ _ (at-check-entities .check-entities .ensures) (c .before .if1 .left),
       at-start .pre .3 .flags,
@@ -49,13 +49,13 @@ check-operations-requires c κs = search needs
 add-result-2 : tie.Need-add-result-2
 add-result-2 c =
     let at-check-transitions-arg = c .before .before .before .before .before .before .before .before .before .before .before .before in
-    let at-start = at-check-transitions-arg .before .before .before .before .before .before .before .before in
+    let at-start = at-check-transitions-arg .before .before .before .before .before .before .before .before .before in
     omega (arith, at-start .pre .0 .limits)
 
 add-result-3 : tie.Need-add-result-3
 add-result-3 c =
     let at-check-transitions-arg = c .before .before .before .before .before .before .before .before .before .before .before .before in
-    let at-start = at-check-transitions-arg .before .before .before .before .before .before .before .before in
+    let at-start = at-check-transitions-arg .before .before .before .before .before .before .before .before .before in
     omega (arith, at-start .pre .0 .limits, c .before .if3 .taken)
 
 same-length-2 : tie.Need-same-length-2
@@ -71,7 +71,7 @@ returns-3 c =
     let at-check-transitions = at-if2 .before .before .before .before in
     let at-if1 = at-check-transitions .before .before in
     let at-check-entities = at-if1 .before .before in
-    let at-start = at-check-entities .before .before .before .before .before in (
+    let at-start = at-check-entities .before .before .before .before .before .before in (
       subst (λ (n : ℕ). First (middleTables (at-start .args .s .now) (at-start .args .h)) n) (omega arith)
           (pass _ _ (at-check-entities .check-entities .ensures) (at-if1 .if1 .left)
           (pass _ _ (at-check-transitions .check-transitions .ensures .0) (at-if2 .if2 .left)
@@ -82,13 +82,13 @@ returns-3 c =
 add-result-4 : tie.Need-add-result-4
 add-result-4 c =
     let at-check-transitions-arg = c .before .before .before .before .before .before .before .before .before .before .before .before in
-    let at-start = at-check-transitions-arg .before .before .before .before .before .before .before .before in
+    let at-start = at-check-transitions-arg .before .before .before .before .before .before .before .before .before in
     omega (arith, at-start .pre .0 .limits)
 
 add-result-5 : tie.Need-add-result-5
 add-result-5 c =
     let at-check-transitions = c .before .before .before .before .before .before .before .before .before .before .before .before in
-    let at-start = at-check-transitions .before .before .before .before .before .before .before .before .before in
+    let at-start = at-check-transitions .before .before .before .before .before .before .before .before .before .before in
     omega (arith, at-start .pre .0 .limits)
 
 check-effects-requires : tie.Need-check-effects-requires
@@ -99,7 +99,7 @@ check-effects-requires c κs =
     let at-check-transitions = at-if2 .before .before .before .before in
     let at-if1 = at-check-transitions .before .before in
     let at-check-entities = at-if1 .before .before in
-    let at-start = at-check-entities .before .before .before .before .before in (
+    let at-start = at-check-entities .before .before .before .before .before .before in (
       record {
         sized = at-start .pre .0;
         groups = at-start .pre .1;
@@ -115,7 +115,7 @@ add-result-6 : tie.Need-add-result-6
 add-result-6 c =
     let at-check-effects = c .before .before in
     let at-struct-known2 = at-check-effects .before .before .before .before .before .before .before .before .before .before .before .before in
-    let at-start = at-struct-known2 .before .before .before .before .before .before .before .before .before .before .before .before in
+    let at-start = at-struct-known2 .before .before .before .before .before .before .before .before .before .before .before .before .before in
     omega (arith, at-start .pre .0 .limits, at-most _ _ (at-check-effects .check-effects .ensures))
 
 same-length-4 : tie.Need-same-length-4
@@ -136,7 +136,7 @@ returns-4 c =
     let at-check-transitions = at-if2 .before .before .before .before in
     let at-if1 = at-check-transitions .before .before in
     let at-check-entities = at-if1 .before .before in
-    let at-start = at-check-entities .before .before .before .before .before in (
+    let at-start = at-check-entities .before .before .before .before .before .before in (
       subst (λ (n : ℕ). First (middleTables (at-start .args .s .now) (at-start .args .h)) n) (omega arith)
           (pass _ _ (at-check-entities .check-entities .ensures) (at-if1 .if1 .left)
           (pass _ _ (at-check-transitions .check-transitions .ensures .0) (at-if2 .if2 .left)

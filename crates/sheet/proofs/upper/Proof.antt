@@ -28,15 +28,15 @@ slice-aggregate-check-nodes-3 c = search needs
 
 check-nodes-requires : tie.Need-check-nodes-requires
 check-nodes-requires c κs =
-    let at-if1 = c .before .before .before .before .before in
+    let at-if1 = c .before .before .before .before .before .before in
     let at-check-facts = at-if1 .before .before in
-    let at-start = at-check-facts .before .before .before in
+    let at-start = at-check-facts .before .before .before .before in
     (record { sized = at-start .pre .0; facts = passed _ _ (at-check-facts .check-facts .ensures) (at-if1 .if1 .left) }, empty-of (at-start .pre .1))
 
 add-result : tie.Need-add-result
 add-result c =
-    let at-tops = c .before .before .before .before .before .before .before .before .before .before .before .before in
-    let at-start = at-tops .before .before .before .before .before .before .before .before .before in
+    let at-tops = c .before .before .before .before .before .before .before .before .before .before .before .before .before .before .before in
+    let at-start = at-tops .before .before .before .before .before .before .before .before .before .before in
     omega (arith, at-start .pre .0 .limits, c .before .if2 .taken)
 
 same-length : tie.Need-same-length
@@ -47,8 +47,8 @@ same-length-2 c = search needs
 
 returns-2 : tie.Need-returns-2
 returns-2 c =
-    let at-check-nodes = c .before .before .before .before .before .before .before .before .before .before in
-    let at-if1 = at-check-nodes .before .before .before .before .before .before in
+    let at-check-nodes = c .before .before .before .before .before .before .before .before .before .before .before .before in
+    let at-if1 = at-check-nodes .before .before .before .before .before .before .before in
     let at-check-facts = at-if1 .before .before in (
       pass _ _ (at-check-facts .check-facts .ensures) (at-if1 .if1 .left)
           (stop-here _ _ (at-check-nodes .check-nodes .ensures .0) (c .before .if2 .taken)),
@@ -60,9 +60,9 @@ slice-aggregate-check-rules c = search needs
 
 check-rules-requires : tie.Need-check-rules-requires
 check-rules-requires c κs =
-    let at-if2 = c .before .before .before in
-    let at-check-nodes = at-if2 .before .before .before .before .before .before .before .before .before in
-    let at-start = at-check-nodes .before .before .before .before .before .before .before .before .before .before .before in (
+    let at-if2 = c .before .before .before .before in
+    let at-check-nodes = at-if2 .before .before .before .before .before .before .before .before .before .before .before in
+    let at-start = at-check-nodes .before .before .before .before .before .before .before .before .before .before .before .before .before in (
       at-start .pre .0,
       known-of (at-check-nodes .check-nodes .ensures .1 (at-if2 .if2 .left)),
       names-of (at-start .pre .0) (at-check-nodes .check-nodes .ensures .1 (at-if2 .if2 .left)),
@@ -70,16 +70,17 @@ check-rules-requires c κs =
 
 first-rule-requires : tie.Need-first-rule-requires
 first-rule-requires c κs =
-    let at-sorts = c .before .before .before .before .before .before .before .before .before .before .before .before in
-    let at-slice-known2 = at-sorts .before .before .before .before .before .before .before .before .before .before .before .before in
+    let at-sorts = c .before .before .before .before .before .before .before .before .before .before .before .before .before .before .before in
+    let at-slice-known2 = at-sorts .before .before .before .before .before .before .before .before .before .before .before .before .before .before in
     let at-start = at-slice-known2 .before .before in
     at-start .pre .0 .limits
 
 add-result-2 : tie.Need-add-result-2
 add-result-2 c =
     let at-check-rules = c .before .before .before in
-    let at-lows2 = at-check-rules .before .before .before .before .before .before .before .before .before .before .before .before in
-    let at-start = at-lows2 .before .before .before .before .before .before .before .before .before .before .before .before in
+    let at-lows2 = at-check-rules .before .before .before .before .before .before .before .before .before .before .before .before .before .before .before
+    in
+    let at-start = at-lows2 .before .before .before .before .before .before .before .before .before .before .before .before .before .before in
     omega (arith, at-start .pre .0 .limits, c .first-rule .ensures, at-most _ _ (at-check-rules .check-rules .ensures .0))
 
 same-length-3 : tie.Need-same-length-3
@@ -88,14 +89,20 @@ same-length-3 c = search needs
 same-length-4 : tie.Need-same-length-4
 same-length-4 c = search needs
 
+same-length-5 : tie.Need-same-length-5
+same-length-5 c = search needs
+
+same-length-6 : tie.Need-same-length-6
+same-length-6 c = search needs
+
 returns-3 : tie.Need-returns-3
 returns-3 c =
     let at-check-rules = c .before .before .before in
-    let at-if2 = at-check-rules .before .before .before .before in
-    let at-check-nodes = at-if2 .before .before .before .before .before .before .before .before .before in
-    let at-if1 = at-check-nodes .before .before .before .before .before .before in
+    let at-if2 = at-check-rules .before .before .before .before .before in
+    let at-check-nodes = at-if2 .before .before .before .before .before .before .before .before .before .before .before in
+    let at-if1 = at-check-nodes .before .before .before .before .before .before .before in
     let at-check-facts = at-if1 .before .before in
-    let at-start = at-check-facts .before .before .before in (
+    let at-start = at-check-facts .before .before .before .before in (
       subst (λ (n : ℕ). First (upperTables (at-start .args .s .now) (at-start .args .h)) n) (omega (arith, c .first-rule .ensures))
           (pass _ _ (at-check-facts .check-facts .ensures) (at-if1 .if1 .left)
           (pass _ _ (at-check-nodes .check-nodes .ensures .0) (at-if2 .if2 .left) (last-one _ (at-check-rules .check-rules .ensures .0)))),
@@ -118,11 +125,13 @@ upper-spec =
     add-result
     same-length
     same-length-2
+    same-length-3
     returns-2
     slice-aggregate-check-rules
     check-rules-requires
     first-rule-requires
     add-result-2
-    same-length-3
     same-length-4
+    same-length-5
+    same-length-6
     returns-3)

@@ -15,6 +15,9 @@ word-requires-2 c κs = search needs
 word-requires-3 : tie.Need-word-requires-3
 word-requires-3 c κs = search needs
 
+valued-requires : tie.Need-valued-requires
+valued-requires c κs = search needs
+
 good-bounds-requires : tie.Need-good-bounds-requires
 good-bounds-requires c κs = search needs
 
@@ -24,23 +27,25 @@ good-set-requires c κs = search needs
 good-default-requires : tie.Need-good-default-requires
 good-default-requires c κs = search needs
 
-unused-requires : tie.Need-unused-requires
-unused-requires c κs = search needs
+good-tail-requires : tie.Need-good-tail-requires
+good-tail-requires c κs = search needs
 
 returns : tie.Need-returns
 unfolding goodAlone recordAt
 returns c =
     let at-good-set = c .before .before in
     let at-good-bounds = at-good-set .before in
-    let at-word3 = at-good-bounds .before in
+    let at-valued = at-good-bounds .before in
+    let at-word3 = at-valued .before in
     let at-word2 = at-word3 .before in
     let at-word = at-word2 .before in
     let at-start = at-word .before in
     rw (
-      c .unused .ensures,
+      c .good-tail .ensures,
       c .before .good-default .ensures,
       at-good-set .good-set .ensures,
       at-good-bounds .good-bounds .ensures,
+      at-valued .valued .ensures,
       back-of (at-word3 .word3 .result) (at-word3 .word3 .ok),
       at-word3 .word3 .ensures,
       back-of (at-word2 .word2 .result) (at-word2 .word2 .ok),
@@ -57,8 +62,9 @@ good-alone-spec =
     word-requires
     word-requires-2
     word-requires-3
+    valued-requires
     good-bounds-requires
     good-set-requires
     good-default-requires
-    unused-requires
+    good-tail-requires
     returns)

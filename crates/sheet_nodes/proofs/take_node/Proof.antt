@@ -19,12 +19,12 @@ children-requires c κs = search needs
 
 take-leaf-requires : tie.Need-take-leaf-requires
 take-leaf-requires c κs =
-    let at-if1 = c .before .before .before .before in
+    let at-if1 = c .before .before .before .before .before in
     let at-children = at-if1 .before .before in
     let at-num = at-children .before in
     let at-struct-told = at-num .before in
     let at-words-at = at-struct-told .before in
-    let at-start = at-words-at .before .before .before .before .before in
+    let at-start = at-words-at .before .before .before .before .before .before in
     leaf-at (at-start .pre) (at-children .children .result)
     (record {
       words = at-words-at .words-at .ensures;
@@ -35,12 +35,12 @@ take-leaf-requires c κs =
 
 take-parent-requires : tie.Need-take-parent-requires
 take-parent-requires c κs =
-    let at-if1 = c .before .before .before .before .before in
+    let at-if1 = c .before .before .before .before .before .before in
     let at-children = at-if1 .before .before in
     let at-num = at-children .before in
     let at-struct-told = at-num .before in
     let at-words-at = at-struct-told .before in
-    let at-start = at-words-at .before .before .before .before .before in (
+    let at-start = at-words-at .before .before .before .before .before .before in (
       (
         at-start .pre,
         record {
@@ -66,13 +66,13 @@ same-length-4 c = search needs
 
 returns : tie.Need-returns
 returns c =
-    let at-take-leaf = c .before .before .before .before .before .before in
-    let at-if1 = at-take-leaf .before .before .before .before .before in
+    let at-take-leaf = c .before .before .before .before .before .before .before .before in
+    let at-if1 = at-take-leaf .before .before .before .before .before .before in
     let at-children = at-if1 .before .before in
     let at-num = at-children .before in
     let at-struct-told = at-num .before in
     let at-words-at = at-struct-told .before in
-    let at-start = at-words-at .before .before .before .before .before in
+    let at-start = at-words-at .before .before .before .before .before .before in
     took-leaf (at-start .pre) (at-children .children .result)
     (record {
       words = at-words-at .words-at .ensures;
@@ -96,9 +96,15 @@ same-length-8 c = search needs
 same-length-9 : tie.Need-same-length-9
 same-length-9 c = search needs
 
+same-length-10 : tie.Need-same-length-10
+same-length-10 c = search needs
+
+same-length-11 : tie.Need-same-length-11
+same-length-11 c = search needs
+
 returns-2 : tie.Need-returns-2
 returns-2 c =
-    let at-take-parent = c .before .before .before .before .before .before .before .before in
+    let at-take-parent = c .before .before .before .before .before .before .before .before .before .before in
     at-take-parent .take-parent .ensures
 
 pub take-node-spec : {M : Type 1} → statement M
@@ -112,11 +118,13 @@ take-node-spec = tie.close (tie.spec
     same-length-2
     same-length-3
     same-length-4
+    same-length-5
     returns
     take-parent-requires
-    same-length-5
     same-length-6
     same-length-7
     same-length-8
     same-length-9
+    same-length-10
+    same-length-11
     returns-2)

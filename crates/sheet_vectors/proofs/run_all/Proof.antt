@@ -5,10 +5,10 @@ use Rattle.sheet_vectors.proofs.run_all.Statement.{statement}
 use Rattle.sheet_vectors.proofs.run_all.Tie as tie
 
 abbrev Inv-loop : tie.InvT-loop
-Inv-loop tape end at₀ case₀ at case = (at ≤ 8242) × (3 * case ≤ at)
+Inv-loop tape end at₀ case₀ at case = (at ≤ 16434) × (3 * case ≤ at)
 
 abbrev μ-loop : tie.MeasureT-loop
-μ-loop tape end at₀ case₀ at case = 8242 - at
+μ-loop tape end at₀ case₀ at case = 16434 - at
 
 loop-holds : tie.Need-loop-holds Inv-loop μ-loop
 loop-holds c = search needs

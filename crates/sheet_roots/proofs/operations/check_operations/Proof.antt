@@ -9,25 +9,27 @@ use Rattle.sheet_roots.proofs.operations.check_operations.Statement.{st
 use Rattle.sheet_roots.proofs.operations.check_operations.Tie as tie
 
 abbrev Inv-loop : tie.InvT-loop
-Inv-loop s h sorts named₀ n sum₀ k₀ named sum k = Turn s h (length named₀) k sum named
+Inv-loop s h sorts scopes named₀ n sum₀ k₀ named sum k = Turn s h (length named₀) k sum named
 
 abbrev μ-loop : tie.MeasureT-loop
-μ-loop s h sorts named₀ n sum₀ k₀ named sum k = n - k
+μ-loop s h sorts scopes named₀ n sum₀ k₀ named sum k = n - k
 
 loop-holds : tie.Need-loop-holds Inv-loop μ-loop
-loop-holds c = begin _ _ _ (c .before .before .pre .3)
+loop-holds c =
+    let at-start = c .before .before .before in
+    begin _ _ _ (at-start .pre .3)
 
 first-operation-requires : tie.Need-first-operation-requires Inv-loop μ-loop
 first-operation-requires c κs = search needs
 
 add-record-at : tie.Need-add-record-at Inv-loop μ-loop
 add-record-at c =
-    let at-start = c .before .before .before .before .before in
+    let at-start = c .before .before .before .before .before .before in
     omega (arith, at-start .pre .0 .limits, at-start .pre .0 .long, c .first-operation .ensures)
 
 record-at-requires : tie.Need-record-at-requires Inv-loop μ-loop
 record-at-requires c κs =
-    let at-start = c .before .before .before .before .before in
+    let at-start = c .before .before .before .before .before .before in
     omega (arith, at-start .pre .0 .limits, at-start .pre .0 .long, c .first-operation .ensures)
 
 root-requires : tie.Need-root-requires Inv-loop μ-loop
@@ -48,10 +50,10 @@ add-sum c =
     let at-first-operation = at-record-at .before in
     let at-loop-test = at-first-operation .before in
     let at-loop = at-loop-test .before in
-    let at-start = at-loop .before .before .before in
+    let at-start = at-loop .before .before .before .before in
     omega (
       arith,
-      fits _ _ _ _ (at-start .args .sorts .now) (at-start .pre .2) (at-loop .loop .inv) (at-loop-test .loop-test .taken)
+      fits _ _ _ _ (at-start .pre .2) (at-loop .loop .inv) (at-loop-test .loop-test .taken)
           (at-first-operation .first-operation .ensures) (at-record-at .record-at .ensures) (at-start .pre .1),
       at-start .pre .0 .limits .effects,
     )
@@ -60,7 +62,7 @@ add-k : tie.Need-add-k Inv-loop μ-loop
 add-k c =
     let at-root = c .before .before .before .before .before .before .before .before .before .before .before .before in
     let at-loop-test = at-root .before .before .before .before in
-    let at-start = at-loop-test .before .before .before .before in
+    let at-start = at-loop-test .before .before .before .before .before in
     omega (arith, at-loop-test .loop-test .taken, at-start .pre .0 .limits .operations)
 
 loop-less : tie.Need-loop-less Inv-loop μ-loop
@@ -77,15 +79,15 @@ loop-again c =
     let at-first-operation = at-record-at .before in
     let at-loop-test = at-first-operation .before in
     let at-loop = at-loop-test .before in
-    let at-start = at-loop .before .before .before in
-    again _ _ _ _ (at-start .args .sorts .now) (at-start .pre .2) (at-loop .loop .inv) (at-loop-test .loop-test .taken)
+    let at-start = at-loop .before .before .before .before in
+    again _ _ _ _ (at-start .pre .2) (at-loop .loop .inv) (at-loop-test .loop-test .taken)
     (at-first-operation .first-operation .ensures) (at-record-at .record-at .ensures) (at-root .root .ensures) (at-good-mask .good-mask .ensures)
     (at-unused .unused .ensures) (at-if1 .if1 .taken) (at-mark .mark .ensures)
 
 same-length : tie.Need-same-length Inv-loop μ-loop
 same-length c =
     let at-loop = c .before .before .before .before .before .before .before .before .before .before .before .before in
-    let at-start = at-loop .before .before .before in
+    let at-start = at-loop .before .before .before .before in
     kept (at-loop .loop .inv .names) (at-start .pre .3)
 
 returns : tie.Need-returns Inv-loop μ-loop
@@ -96,8 +98,8 @@ returns c =
     let at-first-operation = at-record-at .before in
     let at-loop-test = at-first-operation .before in
     let at-loop = at-loop-test .before in
-    let at-start = at-loop .before .before .before in (
-      stop _ _ _ _ (at-start .args .sorts .now) (at-start .pre .2) (at-loop .loop .inv) (at-loop-test .loop-test .taken)
+    let at-start = at-loop .before .before .before .before in (
+      stop _ _ _ _ (at-start .pre .2) (at-loop .loop .inv) (at-loop-test .loop-test .taken)
           (at-first-operation .first-operation .ensures) (at-record-at .record-at .ensures) (at-root .root .ensures)
           (at-good-mask .good-mask .ensures) (c .before .unused .ensures) (c .if1 .left),
       λ l. absurd (omega (arith, at-loop-test .loop-test .taken)),
@@ -105,7 +107,7 @@ returns c =
 
 same-length-2 : tie.Need-same-length-2 Inv-loop μ-loop
 same-length-2 c =
-    let at-start = c .before .before .before .before in
+    let at-start = c .before .before .before .before .before in
     kept (c .before .loop .inv .names) (at-start .pre .3)
 
 returns-2 : tie.Need-returns-2 Inv-loop μ-loop

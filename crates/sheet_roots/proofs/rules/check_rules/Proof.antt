@@ -9,14 +9,14 @@ use Rattle.sheet_roots.proofs.rules.check_rules.Statement.{statement}
 use Rattle.sheet_roots.proofs.rules.check_rules.Tie as tie
 
 abbrev Inv-loop : tie.InvT-loop
-Inv-loop s h sorts tops named₀ n k₀ named k = Turn s h (length named₀) k named
+Inv-loop s h sorts scopes tops named₀ n k₀ named k = Turn s h (length named₀) k named
 
 abbrev μ-loop : tie.MeasureT-loop
-μ-loop s h sorts tops named₀ n k₀ named k = n - k
+μ-loop s h sorts scopes tops named₀ n k₀ named k = n - k
 
 loop-holds : tie.Need-loop-holds Inv-loop μ-loop
 loop-holds c =
-    let at-start = c .before .before .before in
+    let at-start = c .before .before .before .before in
     begin _ _ _ (at-start .pre .2)
 
 first-rule-requires : tie.Need-first-rule-requires Inv-loop μ-loop
@@ -24,12 +24,12 @@ first-rule-requires c κs = search needs
 
 add-record-at : tie.Need-add-record-at Inv-loop μ-loop
 add-record-at c =
-    let at-start = c .before .before .before .before .before .before in
+    let at-start = c .before .before .before .before .before .before .before in
     omega (arith, at-start .pre .0 .limits, at-start .pre .0 .long, c .first-rule .ensures)
 
 record-at-requires : tie.Need-record-at-requires Inv-loop μ-loop
 record-at-requires c κs =
-    let at-start = c .before .before .before .before .before .before in
+    let at-start = c .before .before .before .before .before .before .before in
     omega (arith, at-start .pre .0 .limits, at-start .pre .0 .long, c .first-rule .ensures)
 
 root-requires : tie.Need-root-requires Inv-loop μ-loop
@@ -53,7 +53,7 @@ mark-requires c κs = search needs
 add-k : tie.Need-add-k Inv-loop μ-loop
 add-k c =
     let at-loop-test = c .before .before .before .before .before .before .before .before .before .before .before .before .before .before in
-    let at-start = at-loop-test .before .before .before .before .before in
+    let at-start = at-loop-test .before .before .before .before .before .before in
     omega (arith, at-loop-test .loop-test .taken, at-start .pre .0 .limits .rules)
 
 loop-less : tie.Need-loop-less Inv-loop μ-loop
@@ -72,7 +72,7 @@ loop-again c =
     let at-first-rule = at-record-at .before in
     let at-loop-test = at-first-rule .before in
     let at-loop = at-loop-test .before in
-    let at-start = at-loop .before .before .before .before in
+    let at-start = at-loop .before .before .before .before .before in
     again _ _ _ (at-start .pre .1) (at-loop .loop .inv) (at-loop-test .loop-test .taken) (at-first-rule .first-rule .ensures)
     (at-record-at .record-at .ensures) (at-root .root .ensures) (at-byte-entry .byte-entry .ensures) (at-cites-lower .cites-lower .ensures)
     (at-risen .risen .ensures) (at-unused .unused .ensures) (at-if1 .if1 .taken) (at-mark .mark .ensures)
@@ -80,7 +80,7 @@ loop-again c =
 same-length : tie.Need-same-length Inv-loop μ-loop
 same-length c =
     let at-loop = c .before .before .before .before .before .before .before .before .before .before .before in
-    let at-start = at-loop .before .before .before .before in
+    let at-start = at-loop .before .before .before .before .before in
     kept (at-loop .loop .inv .names) (at-start .pre .2)
 
 returns : tie.Need-returns Inv-loop μ-loop
@@ -93,7 +93,7 @@ returns c =
     let at-first-rule = at-record-at .before in
     let at-loop-test = at-first-rule .before in
     let at-loop = at-loop-test .before in
-    let at-start = at-loop .before .before .before .before in (
+    let at-start = at-loop .before .before .before .before .before in (
       stop _ _ _ (at-start .pre .1) (at-loop .loop .inv) (at-loop-test .loop-test .taken) (at-first-rule .first-rule .ensures)
           (at-record-at .record-at .ensures) (at-root .root .ensures) (at-byte-entry .byte-entry .ensures) (at-cites-lower .cites-lower .ensures)
           (at-risen .risen .ensures) (c .before .unused .ensures) (c .if1 .left),
@@ -102,7 +102,7 @@ returns c =
 
 same-length-2 : tie.Need-same-length-2 Inv-loop μ-loop
 same-length-2 c =
-    let at-start = c .before .before .before .before .before in
+    let at-start = c .before .before .before .before .before .before in
     kept (c .before .loop .inv .names) (at-start .pre .2)
 
 returns-2 : tie.Need-returns-2 Inv-loop μ-loop

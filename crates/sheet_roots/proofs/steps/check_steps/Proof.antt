@@ -9,25 +9,27 @@ use Rattle.sheet_roots.proofs.steps.check_steps.Statement.{statement}
 use Rattle.sheet_roots.proofs.steps.check_steps.Tie as tie
 
 abbrev Inv-loop : tie.InvT-loop
-Inv-loop s h sorts named₀ n sum₀ k₀ named sum k = Turn s h (length named₀) k sum named
+Inv-loop s h sorts scopes named₀ n sum₀ k₀ named sum k = Turn s h (length named₀) k sum named
 
 abbrev μ-loop : tie.MeasureT-loop
-μ-loop s h sorts named₀ n sum₀ k₀ named sum k = n - k
+μ-loop s h sorts scopes named₀ n sum₀ k₀ named sum k = n - k
 
 loop-holds : tie.Need-loop-holds Inv-loop μ-loop
-loop-holds c = begin _ _ _ (c .before .before .pre .4)
+loop-holds c =
+    let at-start = c .before .before .before in
+    begin _ _ _ (at-start .pre .4)
 
 first-step-requires : tie.Need-first-step-requires Inv-loop μ-loop
 first-step-requires c κs = search needs
 
 add-record-at : tie.Need-add-record-at Inv-loop μ-loop
 add-record-at c =
-    let at-start = c .before .before .before .before .before in
+    let at-start = c .before .before .before .before .before .before in
     omega (arith, at-start .pre .0 .limits, at-start .pre .0 .long, c .first-step .ensures)
 
 record-at-requires : tie.Need-record-at-requires Inv-loop μ-loop
 record-at-requires c κs =
-    let at-start = c .before .before .before .before .before in
+    let at-start = c .before .before .before .before .before .before in
     omega (arith, at-start .pre .0 .limits, at-start .pre .0 .long, c .first-step .ensures)
 
 root-requires : tie.Need-root-requires Inv-loop μ-loop
@@ -35,7 +37,7 @@ root-requires c κs = search needs
 
 good-kind-requires : tie.Need-good-kind-requires Inv-loop μ-loop
 good-kind-requires c κs =
-    let at-start = c .before .before .before .before .before .before .before .before in
+    let at-start = c .before .before .before .before .before .before .before .before .before in
     (at-start .pre .0, at-start .pre .3)
 
 unused-requires : tie.Need-unused-requires Inv-loop μ-loop
@@ -50,10 +52,10 @@ add-sum c =
     let at-first-step = at-record-at .before in
     let at-loop-test = at-first-step .before in
     let at-loop = at-loop-test .before in
-    let at-start = at-loop .before .before .before in
+    let at-start = at-loop .before .before .before .before in
     omega (
       arith,
-      fits _ _ _ _ (at-start .args .sorts .now) (at-start .pre .2) (at-loop .loop .inv) (at-loop-test .loop-test .taken)
+      fits _ _ _ _ (at-start .pre .2) (at-loop .loop .inv) (at-loop-test .loop-test .taken)
           (at-first-step .first-step .ensures) (at-record-at .record-at .ensures) (at-start .pre .1),
       at-start .pre .0 .limits .routes,
     )
@@ -61,7 +63,7 @@ add-sum c =
 add-k : tie.Need-add-k Inv-loop μ-loop
 add-k c =
     let at-loop-test = c .before .before .before .before .before .before .before .before .before .before .before .before .before .before in
-    let at-start = at-loop-test .before .before .before .before in
+    let at-start = at-loop-test .before .before .before .before .before in
     omega (arith, at-loop-test .loop-test .taken, at-start .pre .0 .limits .steps)
 
 loop-less : tie.Need-loop-less Inv-loop μ-loop
@@ -78,15 +80,15 @@ loop-again c =
     let at-first-step = at-record-at .before in
     let at-loop-test = at-first-step .before in
     let at-loop = at-loop-test .before in
-    let at-start = at-loop .before .before .before in
-    again _ _ _ _ (at-start .args .sorts .now) (at-start .pre .2) (at-loop .loop .inv) (at-loop-test .loop-test .taken)
+    let at-start = at-loop .before .before .before .before in
+    again _ _ _ _ (at-start .pre .2) (at-loop .loop .inv) (at-loop-test .loop-test .taken)
     (at-first-step .first-step .ensures) (at-record-at .record-at .ensures) (at-root .root .ensures) (at-good-kind .good-kind .ensures)
     (at-unused .unused .ensures) (at-if1 .if1 .taken) (at-mark .mark .ensures)
 
 same-length : tie.Need-same-length Inv-loop μ-loop
 same-length c =
     let at-loop = c .before .before .before .before .before .before .before .before .before in
-    let at-start = at-loop .before .before .before in
+    let at-start = at-loop .before .before .before .before in
     kept (at-loop .loop .inv .names) (at-start .pre .4)
 
 returns : tie.Need-returns Inv-loop μ-loop
@@ -97,14 +99,14 @@ returns c =
     let at-first-step = at-record-at .before in
     let at-loop-test = at-first-step .before in
     let at-loop = at-loop-test .before in
-    let at-start = at-loop .before .before .before in
-    stop _ _ _ _ (at-start .args .sorts .now) (at-start .pre .2) (at-loop .loop .inv) (at-loop-test .loop-test .taken)
+    let at-start = at-loop .before .before .before .before in
+    stop _ _ _ _ (at-start .pre .2) (at-loop .loop .inv) (at-loop-test .loop-test .taken)
     (at-first-step .first-step .ensures) (at-record-at .record-at .ensures) (at-root .root .ensures) (at-good-kind .good-kind .ensures)
     (c .before .unused .ensures) (c .if1 .left)
 
 same-length-2 : tie.Need-same-length-2 Inv-loop μ-loop
 same-length-2 c =
-    let at-start = c .before .before .before .before in
+    let at-start = c .before .before .before .before .before in
     kept (c .before .loop .inv .names) (at-start .pre .4)
 
 returns-2 : tie.Need-returns-2 Inv-loop μ-loop

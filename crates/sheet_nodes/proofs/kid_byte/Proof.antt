@@ -1,8 +1,8 @@
--- `sheet_nodes::kid_top` meets its contract. Assumes nothing.
+-- `sheet_nodes::kid_byte` meets its contract. Assumes nothing.
 use native.Mathlib.Omega.{arith}
 use borrow.Author.Needs.{needs}
-use Rattle.sheet_nodes.proofs.kid_top.Statement.{statement}
-use Rattle.sheet_nodes.proofs.kid_top.Tie as tie
+use Rattle.sheet_nodes.proofs.kid_byte.Statement.{statement}
+use Rattle.sheet_nodes.proofs.kid_byte.Tie as tie
 
 shared-slice-read-result : tie.Need-shared-slice-read-result
 shared-slice-read-result c =
@@ -18,5 +18,5 @@ returns c = rw (c .before .if1 .taken)
 returns-2 : tie.Need-returns-2
 returns-2 c = rw (c .if1 .left)
 
-pub kid-top-spec : {M : Type 1} → statement M
-kid-top-spec = tie.close (tie.spec shared-slice-read-result cast-result returns returns-2)
+pub kid-byte-spec : {M : Type 1} → statement M
+kid-byte-spec = tie.close (tie.spec shared-slice-read-result cast-result returns returns-2)
