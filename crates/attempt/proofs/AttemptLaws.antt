@@ -100,6 +100,10 @@ module _ (s : List ℤ) (h : Header) (facts : List FactValue) (verdicts states :
       let k = past (allowed s h o p) (truth s h facts verdicts (precondition s h o)) (chosen s h states o v) c q in
       record { allowed = k .0; truth = k .1; chosen = k .2 }
 
+  -- an outcome that is answered is one of the operation's
+  pub outcome-below : (j : ℕ) → attempted s h facts verdicts states p o v ≡ Is j → j < operation s h o .w4
+  outcome-below j q = chosen-exists s h states o v j (chose-so (Outcome j) q .chosen)
+
   pub outcome-states : (j : ℕ) → attempted s h facts verdicts states p o v ≡ Is j
       → attemptedStates s h facts verdicts states p o v ≡ applied s h states o j
   unfolding attemptedStates statesAfter
@@ -129,11 +133,7 @@ module _ {s : List ℤ} {h : Header} {facts : List FactValue} {verdicts states :
 
 module _ {s : List ℤ} {h : Header} {facts : List FactValue} {verdicts states : List ℤ} {p o : ℕ} (w : Attemptable s h facts verdicts states p o)
     (v : Wanted) where
-  -- an outcome that is answered is one of the operation's
-  pub outcome-below : (j : ℕ) → attempted s h facts verdicts states p o v ≡ Is j → j < operation s h o .w4
-  outcome-below j q = chosen-exists s h states o v j (chose-so s h facts verdicts states p o v (Outcome j) q .chosen)
-
-  -- so it fits a signed word, as does the entity that blocks
+  -- the answer fits a signed word
   pub attempt-small : SmallCount (attempted s h facts verdicts states p o v)
   unfolding attempted
   attempt-small =

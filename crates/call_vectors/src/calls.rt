@@ -110,6 +110,7 @@ fn operate_on(
     lists: &[i64],
     lengths: &[i64],
     states: &mut [i64],
+    instances: &[i64],
     persona: i64,
     operation: i64,
     wanted: i64,
@@ -124,6 +125,7 @@ fn operate_on(
             lists,
             lengths,
             states,
+            instances,
             persona,
             operation,
             wanted,
@@ -148,11 +150,14 @@ fn operate_with(
 ) {
     let mut lists = [0i64; 400];
     let mut lengths = [0i64; 160];
-    let mut states = [0i64; 160];
+    let mut states = [0i64; 800];
+    let mut instances = [0i64; 40];
     let fourth = past(tape, third);
+    let fifth = past(tape, fourth);
     let n = lend(tape, third, &mut lists);
     let m = lend(tape, fourth, &mut lengths);
-    let k = lend(tape, past(tape, fourth), &mut states);
+    let k = lend(tape, fifth, &mut states);
+    let i = lend(tape, past(tape, fifth), &mut instances);
     operate_on(
         s,
         values,
@@ -160,6 +165,7 @@ fn operate_with(
         &lists[..n],
         &lengths[..m],
         &mut states[..k],
+        &instances[..i],
         persona,
         operation,
         wanted,

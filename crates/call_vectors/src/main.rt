@@ -1,5 +1,5 @@
 // Runs the calls of the script in the file stdin, and writes a line for each: the call's number, the answer, and every lent buffer but lists,
-// lengths and the wanted words of a run, which are only read.
+// lengths, instances and the wanted words of a run, which are only read.
 // A call: the number of what is called, its numbers, its buffers. 0, with the sheet as a buffer, sets the sheet of the calls after it.
 mod calls;
 mod figures;
@@ -30,8 +30,8 @@ fn lent(call: usize) -> usize {
     match call {
         1 => 4,
         2 => 5,
-        3 => 5,
-        6 => 7,
+        3 => 6,
+        6 => 8,
         0..=8 => 1,
         _ => 0,
     }

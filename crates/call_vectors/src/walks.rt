@@ -124,6 +124,7 @@ fn run_on(
     lists: &[i64],
     lengths: &[i64],
     states: &mut [i64],
+    instances: &[i64],
     flow: i64,
     wanted: &[i64],
     path: &mut [u16],
@@ -131,7 +132,18 @@ fn run_on(
 ) {
     lines::counted(
         case,
-        flows::run(s, values, given, lists, lengths, states, flow, wanted, path),
+        flows::run(
+            s,
+            values,
+            given,
+            lists,
+            lengths,
+            states,
+            instances,
+            flow,
+            wanted,
+            path,
+        ),
     );
     lines::buffer(values);
     lines::buffer(given);
@@ -140,7 +152,7 @@ fn run_on(
     lines::end();
 }
 
-// A run with the facts and lists lent, on buffers from the tape for states, wanted words and path.
+// A run with the facts and lists lent, on buffers from the tape for states, instances, wanted words and path.
 fn run_from(
     s: &[i64],
     values: &[i64],
@@ -152,13 +164,16 @@ fn run_from(
     flow: i64,
     case: usize,
 ) {
-    let mut states = [0i64; 160];
+    let mut states = [0i64; 800];
+    let mut instances = [0i64; 40];
     let mut wanted = [0i64; 300];
     let mut path = [0u16; 512];
     let sixth = past(tape, fifth);
+    let seventh = past(tape, sixth);
     let n = lend(tape, fifth, &mut states);
-    let k = lend(tape, sixth, &mut wanted);
-    let m = lend_path(tape, past(tape, sixth), &mut path);
+    let i = lend(tape, sixth, &mut instances);
+    let k = lend(tape, seventh, &mut wanted);
+    let m = lend_path(tape, past(tape, seventh), &mut path);
     run_on(
         s,
         values,
@@ -166,6 +181,7 @@ fn run_from(
         lists,
         lengths,
         &mut states[..n],
+        &instances[..i],
         flow,
         &wanted[..k],
         &mut path[..m],

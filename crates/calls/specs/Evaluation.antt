@@ -1,4 +1,4 @@
--- 01, "Evaluation", and 02, CR 1 and CR 6: what the calls assemble, verdicts and operate answer, and what they leave in each lent buffer. Each
+-- 01, "Evaluation", and 02, CR 1, CR 6 and CR 7: what the calls assemble, verdicts and operate answer, and what they leave in each lent buffer. Each
 -- climbs the ladder first.
 -- Assumes nothing.
 use mathlib.Core.Bool.{Bool, true, _&&_}
@@ -18,12 +18,13 @@ use Rattle.facts.specs.Lent.{LentFacts}
 use Rattle.facts.specs.Faults.{factsFault}
 use Rattle.facts.specs.Assembled.{assembledValues, assembled}
 use Rattle.predicate.specs.Verdicts.{verdictsOf}
-use Rattle.operation.specs.States.{statesFault}
 use Rattle.operation.specs.declared.Wanted.{Wanted}
 use Rattle.operation.specs.Outcomes.{wantedOf, goodWanted}
+use Rattle.instances.specs.Records.{LentStates, statesLent, recordsFault}
+use Rattle.instances.specs.Named.{gathered, scattered, has, covers}
 use Rattle.attempt.specs.Attempts.{attempted, attemptedStates}
 use Rattle.ladder.specs.declared.Climbed.{Climbed}
-use Rattle.ladder.specs.Ladder.{rungs, opened, climb, by, left, exists, matches, factsLent}
+use Rattle.ladder.specs.Ladder.{rungs, opened, climb, by, left, exists, factsLent}
 
 -- ---- assemble: "fact assembly puts defaults in the lent values of facts not given"
 
@@ -61,14 +62,15 @@ verdictsVerdicts s t verdicts =
 unfoldable pub wantedExists : List ℤ → Header → ℤ → ℤ → Bool
 wantedExists s h o w = exists o (h .operations) && goodWanted (outcomes s h (num o)) (wantedOf w)
 
-unfoldable pub operateRungs : List ℤ → LentFacts → List ℤ → ℤ → ℤ → ℤ → Header → Status
-operateRungs s t states p o w h =
-    rungs (factsLent s h t && matches states (h .entities)) (exists p (h .personas) && wantedExists s h o w)
+unfoldable pub operateRungs : List ℤ → LentFacts → LentStates → ℤ → ℤ → ℤ → Header → Status
+operateRungs s t q p o w h =
+    rungs (factsLent s h t && statesLent h q)
+    (exists p (h .personas) && wantedExists s h o w && covers s h (has q) (num o))
     (factsFault s h t)
-    (statesFault s h states)
+    (recordsFault s h (q .records))
 
-abbrev pub operateClimb : List ℤ → LentFacts → List ℤ → ℤ → ℤ → ℤ → Climbed
-operateClimb s t states p o w = climb (opened s) (operateRungs s t states p o w)
+abbrev pub operateClimb : List ℤ → LentFacts → LentStates → ℤ → ℤ → ℤ → Climbed
+operateClimb s t q p o w = climb (opened s) (operateRungs s t q p o w)
 
 -- "operations and flows work out verdicts themselves": an attempt over what the lent facts come to
 abbrev pub attemptedOver : List ℤ → Header → LentFacts → List ℤ → ℕ → ℕ → Wanted → Count
@@ -78,10 +80,13 @@ abbrev pub attemptedStatesOver : List ℤ → Header → LentFacts → List ℤ 
 attemptedStatesOver s h t states p o w =
     let facts = assembled s h t in attemptedStates s h facts (verdictsOf s h facts) states p o w
 
-abbrev pub operateAnswer : List ℤ → LentFacts → List ℤ → ℤ → ℤ → ℤ → Count
-operateAnswer s t states p o w =
-    by (operateClimb s t states p o w) NoCount (λ h. attemptedOver s h t states (num p) (num o) (wantedOf w))
+-- over the states of the named instances
+abbrev pub operateAnswer : List ℤ → LentFacts → LentStates → ℤ → ℤ → ℤ → Count
+operateAnswer s t q p o w =
+    by (operateClimb s t q p o w) NoCount (λ h. attemptedOver s h t (gathered h q) (num p) (num o) (wantedOf w))
 
-abbrev pub operateStates : List ℤ → LentFacts → List ℤ → ℤ → ℤ → ℤ → List ℤ
-operateStates s t states p o w =
-    left (operateClimb s t states p o w) states (λ h. attemptedStatesOver s h t states (num p) (num o) (wantedOf w))
+-- the lent records afterwards
+abbrev pub operateStates : List ℤ → LentFacts → LentStates → ℤ → ℤ → ℤ → List ℤ
+operateStates s t q p o w =
+    left (operateClimb s t q p o w) (q .records)
+    (λ h. scattered q (attemptedStatesOver s h t (gathered h q) (num p) (num o) (wantedOf w)))

@@ -1,5 +1,5 @@
--- 01, "Flow" under "Evaluation", and S6, and 02, CR 1 and CR 6: what the calls first, next and run answer, and what they leave in each lent buffer.
--- Each climbs the ladder first.
+-- 01, "Flow" under "Evaluation", and S6, and 02, CR 1, CR 6 and CR 7: what the calls first, next and run answer, and what they leave in each lent
+-- buffer. Each climbs the ladder first.
 -- Assumes nothing.
 use mathlib.Core.Bool.{Bool, true, false, _&&_}
 use mathlib.Core.List.{List}
@@ -17,10 +17,11 @@ use Rattle.facts.specs.Lent.{LentFacts}
 use Rattle.facts.specs.Faults.{factsFault}
 use Rattle.facts.specs.Assembled.{assembled}
 use Rattle.predicate.specs.Verdicts.{verdictsOf}
-use Rattle.operation.specs.States.{statesFault}
+use Rattle.instances.specs.Records.{LentStates, statesLent, recordsFault}
+use Rattle.instances.specs.Named.{gathered, scattered, has}
 use Rattle.walks.specs.Paths.{stepsOf}
 use Rattle.listing.specs.Calls.{firstWalk, firstLaid, nextWalk, nextLaid}
-use Rattle.run.specs.Runs.{goodWords, ranWalk, ranPath, ranStates}
+use Rattle.run.specs.Runs.{goodWords, flowCovers, ranWalk, ranPath, ranStates}
 use Rattle.ladder.specs.declared.Climbed.{Climbed}
 use Rattle.ladder.specs.Ladder.{rungs, opened, climb, by, left, exists, matches, factsLent}
 
@@ -38,15 +39,15 @@ wantedLent s h f words = matches words (stepsOr s h f (length words))
 
 -- ---- run: 1 to 8
 
-unfoldable pub runRungs : List ℤ → LentFacts → List ℤ → ℤ → List ℤ → ℕ → Header → Status
-runRungs s t states f words room h =
-    rungs (factsLent s h t && matches states (h .entities) && wantedLent s h f words && pathLent s h f room)
-    (exists f (h .flows) && goodWords s h (num f) words)
+unfoldable pub runRungs : List ℤ → LentFacts → LentStates → ℤ → List ℤ → ℕ → Header → Status
+runRungs s t q f words room h =
+    rungs (factsLent s h t && statesLent h q && wantedLent s h f words && pathLent s h f room)
+    (exists f (h .flows) && goodWords s h (num f) words && flowCovers s h (has q) (num f))
     (factsFault s h t)
-    (statesFault s h states)
+    (recordsFault s h (q .records))
 
-abbrev pub runClimb : List ℤ → LentFacts → List ℤ → ℤ → List ℤ → ℕ → Climbed
-runClimb s t states f words room = climb (opened s) (runRungs s t states f words room)
+abbrev pub runClimb : List ℤ → LentFacts → LentStates → ℤ → List ℤ → ℕ → Climbed
+runClimb s t q f words room = climb (opened s) (runRungs s t q f words room)
 
 -- "facts and verdicts are fixed at its start": a run over what the lent facts come to
 abbrev pub ranWalkOver : List ℤ → Header → LentFacts → List ℤ → ℕ → List ℤ → Counted
@@ -58,17 +59,19 @@ ranPathOver s h t states f words b = let facts = assembled s h t in ranPath s h 
 abbrev pub ranStatesOver : List ℤ → Header → LentFacts → List ℤ → ℕ → List ℤ → List ℤ
 ranStatesOver s h t states f words = let facts = assembled s h t in ranStates s h facts (verdictsOf s h facts) states f words
 
-abbrev pub runAnswer : List ℤ → LentFacts → List ℤ → ℤ → List ℤ → List ℕ → Counted
-runAnswer s t states f words b =
-    by (runClimb s t states f words (length b)) NoWalk (λ h. ranWalkOver s h t states (num f) words)
+-- over the states of the named instances
+abbrev pub runAnswer : List ℤ → LentFacts → LentStates → ℤ → List ℤ → List ℕ → Counted
+runAnswer s t q f words b =
+    by (runClimb s t q f words (length b)) NoWalk (λ h. ranWalkOver s h t (gathered h q) (num f) words)
 
-abbrev pub runPath : List ℤ → LentFacts → List ℤ → ℤ → List ℤ → List ℕ → List ℕ
-runPath s t states f words b =
-    left (runClimb s t states f words (length b)) b (λ h. ranPathOver s h t states (num f) words b)
+abbrev pub runPath : List ℤ → LentFacts → LentStates → ℤ → List ℤ → List ℕ → List ℕ
+runPath s t q f words b =
+    left (runClimb s t q f words (length b)) b (λ h. ranPathOver s h t (gathered h q) (num f) words b)
 
-abbrev pub runStates : List ℤ → LentFacts → List ℤ → ℤ → List ℤ → List ℕ → List ℤ
-runStates s t states f words b =
-    left (runClimb s t states f words (length b)) states (λ h. ranStatesOver s h t states (num f) words)
+-- the lent records afterwards
+abbrev pub runStates : List ℤ → LentFacts → LentStates → ℤ → List ℤ → List ℕ → List ℤ
+runStates s t q f words b =
+    left (runClimb s t q f words (length b)) (q .records) (λ h. scattered q (ranStatesOver s h t (gathered h q) (num f) words))
 
 -- ---- S6: first and next: 1 to 5
 

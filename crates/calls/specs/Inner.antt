@@ -3,13 +3,14 @@
 use mathlib.Core.Path.{_≡_}
 use mathlib.Core.Bool.{true}
 use mathlib.Core.List.{List, [], _∷_}
-use Prim.Native.Nat.{ℕ, zero, suc, _-_, _≤_}
+use Prim.Native.Nat.{ℕ, zero, suc, _≤_}
 use lib.IntN.{ℤ}
 use lib.ListN.{length, take}
 use Rattle.signed.specs.Words.{num}
 use Rattle.answer.specs.declared.Counted.the-variants.{Is as Walked, Refused as NoWalk}
 use Rattle.layout.specs.declared.Header.{Header}
 use Rattle.facts.specs.Lent.{LentFacts}
+use Rattle.instances.specs.Records.{LentStates}
 use Rattle.walks.specs.Paths.{stepsOf, paths, path, Among}
 use Rattle.walks.specs.Follows.{walkOf, laid}
 use Rattle.listing.specs.Lists.{Next, State}
@@ -35,7 +36,7 @@ publicReadOff s f (suc k) t =
 
 -- of a run by itself: the sheet was accepted, and it took the routes of one of the flow's paths, which stands in the buffer with 0 past it,
 -- and answered that path's terminal and length
-pub record TookPath (s : List ℤ) (t : LentFacts) (states : List ℤ) (f : ℤ) (words : List ℤ) (b : List ℕ) : Type 0 where
+pub record TookPath (s : List ℤ) (t : LentFacts) (states : LentStates) (f : ℤ) (words : List ℤ) (b : List ℕ) : Type 0 where
   pub header : Header
   pub sheet : opened s ≡ At header
   pub path : List ℕ

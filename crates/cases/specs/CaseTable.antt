@@ -10,6 +10,7 @@ use Rattle.answer.specs.declared.Answer.{Answer}
 use Rattle.answer.specs.Answers.{statusAnswer, countAnswer, countedAnswer}
 use Rattle.records.specs.Accept.{checked}
 use Rattle.facts.specs.Lent.{LentFacts, lent}
+use Rattle.instances.specs.Records.{LentStates, lentStates}
 use Rattle.listing.specs.Lists.{Next, First}
 use Rattle.calls.specs.Evaluation.{assembleAnswer, assembleValues, operateAnswer, operateStates}
 use Rattle.calls.specs.Flows.{runAnswer, runPath, runStates}
@@ -17,7 +18,7 @@ use Rattle.calls.specs.Lists.{publicCall, publicCalls}
 use Rattle.text.specs.Lines.{textOf}
 use Rattle.path_lines.specs.Output.{output}
 use Rattle.calls.specs.Reports.{reachableAnswer, admissibleAnswer, depthAnswer}
-use Rattle.cases.specs.Sheets.{whole, sixRoutes, thirdOutcome, sumWith, threeEntities, productIs, amounts, moneyProduct, threeGraphs, overList, nested}
+use Rattle.cases.specs.Sheets.{whole, sixRoutes, thirdOutcome, sumWith, threeEntities, productIs, amounts, moneyProduct, threeGraphs, overList, nested, parcels}
 
 -- a case by its number: the row that the definitions give, and the row that the papers give
 pub record Case : Type 0 where
@@ -49,6 +50,14 @@ minus n = negℤ (pos n)
 abbrev plain : List ℤ → List ℤ → LentFacts
 plain values given = lent values given [] []
 
+-- one instance of each entity, all numbered 0: of one entity in state q, of three in states a, b and c
+abbrev one : ℕ → LentStates
+one q = lentStates (pos 0 ∷ pos 0 ∷ pos q ∷ []) (pos 0 ∷ [])
+
+abbrev three : ℕ → ℕ → ℕ → LentStates
+three a b c =
+    lentStates (pos 0 ∷ pos 0 ∷ pos a ∷ pos 1 ∷ pos 0 ∷ pos b ∷ pos 2 ∷ pos 0 ∷ pos c ∷ []) (pos 0 ∷ pos 0 ∷ pos 0 ∷ [])
+
 -- a path buffer that holds rubbish
 abbrev pub rubbish : List ℕ
 rubbish = 9 ∷ 9 ∷ []
@@ -63,7 +72,7 @@ listed n =
 unfoldable pub ranFrom : ℕ → ℕ → ℕ → ℤ → List ℤ
 ranFrom x g q w =
     let facts = plain (pos x ∷ []) (pos g ∷ []) in
-    let states = pos q ∷ [] in
+    let states = one q in
     let wanted = negsuc 0 ∷ w ∷ [] in
     row (countedAnswer (runAnswer whole facts states (pos 0) wanted rubbish)) (runStates whole facts states (pos 0) wanted rubbish)
     (runPath whole facts states (pos 0) wanted rubbish)
@@ -72,13 +81,13 @@ ranFrom x g q w =
 unfoldable pub operatedFrom : ℕ → ℤ → List ℤ
 operatedFrom q w =
     let facts = plain (pos 1 ∷ []) (pos 1 ∷ []) in
-    let states = pos q ∷ [] in
+    let states = one q in
     row (countAnswer (operateAnswer whole facts states (pos 0) (pos 0) w)) (operateStates whole facts states (pos 0) (pos 0) w) []
 
 -- the operation on three entities, from states a, b and c, with w wanted
 unfoldable pub operatedOnThree : ℕ → ℕ → ℕ → ℤ → List ℤ
 operatedOnThree a b c w =
-    let states = pos a ∷ pos b ∷ pos c ∷ [] in
+    let states = three a b c in
     row (countAnswer (operateAnswer threeEntities (plain [] []) states (pos 0) (pos 0) w))
     (operateStates threeEntities (plain [] []) states (pos 0) (pos 0) w) []
 
@@ -91,7 +100,7 @@ unfoldable pub operatedWith : ℤ → ℤ → List ℤ
 operatedWith x v =
     let s = productIs (minus 3) (pos 5) (minus 2) v in
     let facts = plain (x ∷ []) (pos 1 ∷ []) in
-    let states = pos 0 ∷ [] in
+    let states = one 0 in
     row (countAnswer (operateAnswer s facts states (pos 0) (pos 0) (negsuc 0))) (operateStates s facts states (pos 0) (pos 0) (negsuc 0)) []
 
 -- S3a: whether a duration in low..high of unit p and 0 seconds may be w seconds
@@ -104,7 +113,7 @@ unfoldable pub operatedOnUnits : ℕ → ℕ → ℕ → ℕ → ℕ → List �
 operatedOnUnits p v q w r =
     let s = amounts 4 13 0 10 p v q w r in
     let facts = plain (pos 1 ∷ []) (pos 1 ∷ []) in
-    let states = pos 0 ∷ [] in
+    let states = one 0 in
     row (countAnswer (operateAnswer s facts states (pos 0) (pos 0) (negsuc 0))) (operateStates s facts states (pos 0) (pos 0) (negsuc 0)) []
 
 unfoldable pub judged : List ℤ → List ℤ
@@ -124,8 +133,24 @@ unfoldable pub quantified : ℕ → ℕ → List ℤ → List ℤ → List ℤ
 quantified k g slots lengths =
     let s = overList 5 k 0 2 in
     let facts = lent (pos 99 ∷ []) (pos g ∷ []) slots lengths in
-    let states = pos 0 ∷ [] in
+    let states = one 0 in
     row (countAnswer (operateAnswer s facts states (pos 0) (pos 0) (negsuc 0))) (operateStates s facts states (pos 0) (pos 0) (negsuc 0)) []
+
+-- the operation on the instances named of two entities, with these records lent
+unfoldable pub operatedNamed : List ℕ → List ℕ → List ℤ
+operatedNamed records instances =
+    let states = lentStates (map pos records) (map pos instances) in
+    row (countAnswer (operateAnswer parcels (plain [] []) states (pos 0) (pos 0) (negsuc 0)))
+    (operateStates parcels (plain [] []) states (pos 0) (pos 0) (negsuc 0)) []
+
+-- a run as above on the instance named, from the states of instances 3 and 5; step 1 wants outcome 1
+unfoldable pub ranNamed : ℕ → ℕ → ℕ → List ℤ
+ranNamed a b instance =
+    let facts = plain (pos 1 ∷ []) (pos 1 ∷ []) in
+    let states = lentStates (map pos (0 ∷ 3 ∷ a ∷ 0 ∷ 5 ∷ b ∷ [])) (pos instance ∷ []) in
+    let wanted = negsuc 0 ∷ pos 1 ∷ [] in
+    row (countedAnswer (runAnswer whole facts states (pos 0) wanted rubbish)) (runStates whole facts states (pos 0) wanted rubbish)
+    (runPath whole facts states (pos 0) wanted rubbish)
 
 -- three slots
 abbrev slots : ℕ → ℕ → ℕ → List ℤ
@@ -133,31 +158,58 @@ slots a b c = pos a ∷ pos b ∷ pos c ∷ []
 
 -- ---- the table
 
+-- 02, CR 7, numbered 17: the named instance moves, and no other; an instance that is not read may be missing, one that is read is 5; 5 before 8,
+-- by membership; what is 8, at which record; 11 at the entity; lengths; runs on the instance named
+unfoldable pub instanceCases : List Case
+instanceCases =
+    record { number = 17; got = operatedNamed (0 ∷ 3 ∷ 0 ∷ 0 ∷ 5 ∷ 0 ∷ 1 ∷ 0 ∷ 1 ∷ []) (5 ∷ 0 ∷ []); want = 0 ∷ 0 ∷ 0 ∷ 0 ∷ 0 ∷ 3 ∷ 0 ∷ 0 ∷ 5 ∷ 1 ∷ 1 ∷ 0 ∷ 1 ∷ [] }
+    ∷ record { number = 17; got = operatedNamed (0 ∷ 3 ∷ 0 ∷ 0 ∷ 5 ∷ 0 ∷ 1 ∷ 0 ∷ 1 ∷ []) (3 ∷ 0 ∷ []); want = 0 ∷ 0 ∷ 0 ∷ 0 ∷ 0 ∷ 3 ∷ 1 ∷ 0 ∷ 5 ∷ 0 ∷ 1 ∷ 0 ∷ 1 ∷ [] }
+    ∷ record { number = 17; got = operatedNamed (0 ∷ 3 ∷ 0 ∷ 0 ∷ 5 ∷ 0 ∷ 1 ∷ 0 ∷ 1 ∷ []) (5 ∷ 9 ∷ []); want = 0 ∷ 0 ∷ 0 ∷ 0 ∷ 0 ∷ 3 ∷ 0 ∷ 0 ∷ 5 ∷ 1 ∷ 1 ∷ 0 ∷ 1 ∷ [] }
+    ∷ record { number = 17; got = operatedNamed (0 ∷ 5 ∷ 0 ∷ []) (5 ∷ 9 ∷ []); want = 0 ∷ 0 ∷ 0 ∷ 0 ∷ 0 ∷ 5 ∷ 1 ∷ [] }
+    ∷ record { number = 17; got = operatedNamed (0 ∷ 3 ∷ 0 ∷ 0 ∷ 5 ∷ 0 ∷ 1 ∷ 0 ∷ 1 ∷ []) (4 ∷ 0 ∷ []); want = 5 ∷ 0 ∷ 0 ∷ 0 ∷ 0 ∷ 3 ∷ 0 ∷ 0 ∷ 5 ∷ 0 ∷ 1 ∷ 0 ∷ 1 ∷ [] }
+    ∷ record { number = 17; got = operatedNamed (1 ∷ 0 ∷ 0 ∷ []) (5 ∷ 0 ∷ []); want = 5 ∷ 0 ∷ 0 ∷ 0 ∷ 1 ∷ 0 ∷ 0 ∷ [] }
+    ∷ record { number = 17; got = operatedNamed (0 ∷ 5 ∷ 0 ∷ 0 ∷ 3 ∷ 0 ∷ []) (4 ∷ 0 ∷ []); want = 5 ∷ 0 ∷ 0 ∷ 0 ∷ 0 ∷ 5 ∷ 0 ∷ 0 ∷ 3 ∷ 0 ∷ [] }
+    ∷ record { number = 17; got = operatedNamed (0 ∷ 5 ∷ 0 ∷ 0 ∷ 3 ∷ 0 ∷ []) (3 ∷ 0 ∷ []); want = 8 ∷ 1 ∷ 0 ∷ 0 ∷ 0 ∷ 5 ∷ 0 ∷ 0 ∷ 3 ∷ 0 ∷ [] }
+    ∷ record { number = 17; got = operatedNamed (0 ∷ 5 ∷ 0 ∷ 0 ∷ 5 ∷ 1 ∷ []) (5 ∷ 0 ∷ []); want = 8 ∷ 1 ∷ 0 ∷ 0 ∷ 0 ∷ 5 ∷ 0 ∷ 0 ∷ 5 ∷ 1 ∷ [] }
+    ∷ record { number = 17; got = operatedNamed (1 ∷ 0 ∷ 0 ∷ 0 ∷ 5 ∷ 0 ∷ []) (5 ∷ 0 ∷ []); want = 8 ∷ 1 ∷ 0 ∷ 0 ∷ 1 ∷ 0 ∷ 0 ∷ 0 ∷ 5 ∷ 0 ∷ [] }
+    ∷ record { number = 17; got = operatedNamed (0 ∷ 5 ∷ 0 ∷ 1 ∷ 0 ∷ 2 ∷ []) (5 ∷ 0 ∷ []); want = 8 ∷ 1 ∷ 0 ∷ 0 ∷ 0 ∷ 5 ∷ 0 ∷ 1 ∷ 0 ∷ 2 ∷ [] }
+    ∷ record { number = 17; got = operatedNamed (0 ∷ 5 ∷ 0 ∷ 2 ∷ 0 ∷ 0 ∷ []) (5 ∷ 0 ∷ []); want = 8 ∷ 1 ∷ 0 ∷ 0 ∷ 0 ∷ 5 ∷ 0 ∷ 2 ∷ 0 ∷ 0 ∷ [] }
+    ∷ record { number = 17; got = operatedNamed (0 ∷ 3 ∷ 1 ∷ 0 ∷ 5 ∷ 1 ∷ []) (5 ∷ 0 ∷ []); want = 11 ∷ 0 ∷ 0 ∷ 0 ∷ 0 ∷ 3 ∷ 1 ∷ 0 ∷ 5 ∷ 1 ∷ [] }
+    ∷ record { number = 17; got = operatedNamed (0 ∷ 5 ∷ 0 ∷ 1 ∷ []) (5 ∷ 0 ∷ []); want = 4 ∷ 0 ∷ 0 ∷ 0 ∷ 0 ∷ 5 ∷ 0 ∷ 1 ∷ [] }
+    ∷ record { number = 17; got = operatedNamed (0 ∷ 5 ∷ 0 ∷ 1 ∷ 0 ∷ []) (5 ∷ 0 ∷ []); want = 4 ∷ 0 ∷ 0 ∷ 0 ∷ 0 ∷ 5 ∷ 0 ∷ 1 ∷ 0 ∷ [] }
+    ∷ record { number = 17; got = operatedNamed (0 ∷ 3 ∷ 0 ∷ 0 ∷ 5 ∷ 0 ∷ 1 ∷ 0 ∷ 1 ∷ []) (5 ∷ []); want = 4 ∷ 0 ∷ 0 ∷ 0 ∷ 0 ∷ 3 ∷ 0 ∷ 0 ∷ 5 ∷ 0 ∷ 1 ∷ 0 ∷ 1 ∷ [] }
+    ∷ record { number = 17; got = operatedNamed (0 ∷ 3 ∷ 0 ∷ 0 ∷ 5 ∷ 0 ∷ 1 ∷ 0 ∷ 1 ∷ []) (5 ∷ 0 ∷ 0 ∷ []); want = 4 ∷ 0 ∷ 0 ∷ 0 ∷ 0 ∷ 3 ∷ 0 ∷ 0 ∷ 5 ∷ 0 ∷ 1 ∷ 0 ∷ 1 ∷ [] }
+    ∷ record { number = 17; got = ranNamed 0 0 5; want = 0 ∷ 0 ∷ 0 ∷ 2 ∷ 0 ∷ 3 ∷ 0 ∷ 0 ∷ 5 ∷ 2 ∷ 0 ∷ 3 ∷ [] }
+    ∷ record { number = 17; got = ranNamed 0 1 3; want = 0 ∷ 0 ∷ 0 ∷ 2 ∷ 0 ∷ 3 ∷ 2 ∷ 0 ∷ 5 ∷ 1 ∷ 0 ∷ 3 ∷ [] }
+    ∷ record { number = 17; got = ranNamed 0 1 5; want = 0 ∷ 0 ∷ 2 ∷ 2 ∷ 0 ∷ 3 ∷ 0 ∷ 0 ∷ 5 ∷ 1 ∷ 0 ∷ 4 ∷ [] }
+    ∷ record { number = 17; got = ranNamed 0 0 4; want = 5 ∷ 0 ∷ 0 ∷ 0 ∷ 0 ∷ 3 ∷ 0 ∷ 0 ∷ 5 ∷ 0 ∷ 9 ∷ 9 ∷ [] }
+    ∷ []
+
 -- 02, CR 6, numbered 16: empty lists; "for all" and "exists" by each element; slots past the length; what is refused 6 and 7, and other totals;
 -- a quantifier inside another, an element outside of one, and a list that kind 3 names
 unfoldable pub listCases : List Case
 listCases =
-    record { number = 16; got = quantified 14 1 (slots 9 9 9) (pos 0 ∷ []); want = 0 ∷ 0 ∷ 0 ∷ 0 ∷ 0 ∷ [] }
-    ∷ record { number = 16; got = quantified 15 1 (slots 1 1 1) (pos 0 ∷ []); want = 10 ∷ 0 ∷ 0 ∷ 0 ∷ 0 ∷ [] }
-    ∷ record { number = 16; got = quantified 14 1 (slots 5 4 3) (pos 3 ∷ []); want = 0 ∷ 0 ∷ 0 ∷ 0 ∷ 0 ∷ [] }
-    ∷ record { number = 16; got = quantified 14 1 (slots 5 4 6) (pos 3 ∷ []); want = 10 ∷ 0 ∷ 0 ∷ 0 ∷ 0 ∷ [] }
-    ∷ record { number = 16; got = quantified 15 1 (slots 6 7 5) (pos 3 ∷ []); want = 0 ∷ 0 ∷ 0 ∷ 0 ∷ 0 ∷ [] }
-    ∷ record { number = 16; got = quantified 15 1 (slots 6 7 8) (pos 3 ∷ []); want = 10 ∷ 0 ∷ 0 ∷ 0 ∷ 0 ∷ [] }
-    ∷ record { number = 16; got = quantified 14 1 (slots 5 6 10) (pos 1 ∷ []); want = 0 ∷ 0 ∷ 0 ∷ 0 ∷ 0 ∷ [] }
-    ∷ record { number = 16; got = quantified 15 1 (slots 6 5 5) (pos 1 ∷ []); want = 10 ∷ 0 ∷ 0 ∷ 0 ∷ 0 ∷ [] }
-    ∷ record { number = 16; got = quantified 14 1 (slots 5 10 5) (pos 2 ∷ []); want = 6 ∷ 0 ∷ 0 ∷ 0 ∷ 0 ∷ [] }
-    ∷ record { number = 16; got = quantified 14 1 (slots 5 5 5) (pos 4 ∷ []); want = 6 ∷ 0 ∷ 0 ∷ 0 ∷ 0 ∷ [] }
-    ∷ record { number = 16; got = quantified 14 1 (slots 5 5 5) (minus 1 ∷ []); want = 6 ∷ 0 ∷ 0 ∷ 0 ∷ 0 ∷ [] }
-    ∷ record { number = 16; got = quantified 14 2 (slots 5 5 5) (pos 3 ∷ []); want = 6 ∷ 0 ∷ 0 ∷ 0 ∷ 0 ∷ [] }
-    ∷ record { number = 16; got = quantified 14 0 (slots 5 5 5) (pos 3 ∷ []); want = 7 ∷ 0 ∷ 0 ∷ 0 ∷ 0 ∷ [] }
-    ∷ record { number = 16; got = quantified 14 1 (pos 5 ∷ pos 5 ∷ []) (pos 2 ∷ []); want = 4 ∷ 0 ∷ 0 ∷ 0 ∷ 0 ∷ [] }
-    ∷ record { number = 16; got = quantified 14 1 (slots 5 5 5) []; want = 4 ∷ 0 ∷ 0 ∷ 0 ∷ 0 ∷ [] }
-    ∷ record { number = 16; got = quantified 14 1 (slots 5 5 5) (pos 3 ∷ pos 3 ∷ []); want = 4 ∷ 0 ∷ 0 ∷ 0 ∷ 0 ∷ [] }
+    record { number = 16; got = quantified 14 1 (slots 9 9 9) (pos 0 ∷ []); want = 0 ∷ 0 ∷ 0 ∷ 0 ∷ 0 ∷ 0 ∷ 0 ∷ [] }
+    ∷ record { number = 16; got = quantified 15 1 (slots 1 1 1) (pos 0 ∷ []); want = 10 ∷ 0 ∷ 0 ∷ 0 ∷ 0 ∷ 0 ∷ 0 ∷ [] }
+    ∷ record { number = 16; got = quantified 14 1 (slots 5 4 3) (pos 3 ∷ []); want = 0 ∷ 0 ∷ 0 ∷ 0 ∷ 0 ∷ 0 ∷ 0 ∷ [] }
+    ∷ record { number = 16; got = quantified 14 1 (slots 5 4 6) (pos 3 ∷ []); want = 10 ∷ 0 ∷ 0 ∷ 0 ∷ 0 ∷ 0 ∷ 0 ∷ [] }
+    ∷ record { number = 16; got = quantified 15 1 (slots 6 7 5) (pos 3 ∷ []); want = 0 ∷ 0 ∷ 0 ∷ 0 ∷ 0 ∷ 0 ∷ 0 ∷ [] }
+    ∷ record { number = 16; got = quantified 15 1 (slots 6 7 8) (pos 3 ∷ []); want = 10 ∷ 0 ∷ 0 ∷ 0 ∷ 0 ∷ 0 ∷ 0 ∷ [] }
+    ∷ record { number = 16; got = quantified 14 1 (slots 5 6 10) (pos 1 ∷ []); want = 0 ∷ 0 ∷ 0 ∷ 0 ∷ 0 ∷ 0 ∷ 0 ∷ [] }
+    ∷ record { number = 16; got = quantified 15 1 (slots 6 5 5) (pos 1 ∷ []); want = 10 ∷ 0 ∷ 0 ∷ 0 ∷ 0 ∷ 0 ∷ 0 ∷ [] }
+    ∷ record { number = 16; got = quantified 14 1 (slots 5 10 5) (pos 2 ∷ []); want = 6 ∷ 0 ∷ 0 ∷ 0 ∷ 0 ∷ 0 ∷ 0 ∷ [] }
+    ∷ record { number = 16; got = quantified 14 1 (slots 5 5 5) (pos 4 ∷ []); want = 6 ∷ 0 ∷ 0 ∷ 0 ∷ 0 ∷ 0 ∷ 0 ∷ [] }
+    ∷ record { number = 16; got = quantified 14 1 (slots 5 5 5) (minus 1 ∷ []); want = 6 ∷ 0 ∷ 0 ∷ 0 ∷ 0 ∷ 0 ∷ 0 ∷ [] }
+    ∷ record { number = 16; got = quantified 14 2 (slots 5 5 5) (pos 3 ∷ []); want = 6 ∷ 0 ∷ 0 ∷ 0 ∷ 0 ∷ 0 ∷ 0 ∷ [] }
+    ∷ record { number = 16; got = quantified 14 0 (slots 5 5 5) (pos 3 ∷ []); want = 7 ∷ 0 ∷ 0 ∷ 0 ∷ 0 ∷ 0 ∷ 0 ∷ [] }
+    ∷ record { number = 16; got = quantified 14 1 (pos 5 ∷ pos 5 ∷ []) (pos 2 ∷ []); want = 4 ∷ 0 ∷ 0 ∷ 0 ∷ 0 ∷ 0 ∷ 0 ∷ [] }
+    ∷ record { number = 16; got = quantified 14 1 (slots 5 5 5) []; want = 4 ∷ 0 ∷ 0 ∷ 0 ∷ 0 ∷ 0 ∷ 0 ∷ [] }
+    ∷ record { number = 16; got = quantified 14 1 (slots 5 5 5) (pos 3 ∷ pos 3 ∷ []); want = 4 ∷ 0 ∷ 0 ∷ 0 ∷ 0 ∷ 0 ∷ 0 ∷ [] }
     ∷ record { number = 16; got = judged (overList 5 14 0 2); want = 0 ∷ 0 ∷ 0 ∷ 0 ∷ [] }
     ∷ record { number = 16; got = judged (overList 5 11 2 0); want = 3 ∷ 7 ∷ 0 ∷ 0 ∷ [] }
     ∷ record { number = 16; got = judged nested; want = 3 ∷ 3 ∷ 0 ∷ 0 ∷ [] }
     ∷ record { number = 16; got = judged (set (overList 5 14 0 2) (16 + 8 * 1) (pos 3)); want = 3 ∷ 1 ∷ 0 ∷ 0 ∷ [] }
-    ∷ []
+    ∷ instanceCases
 
 -- 02, CR 5, numbered 15: each entity's mask and scans, and no such entity
 unfoldable pub scanned : ℤ → List ℤ
@@ -199,15 +251,15 @@ amountCases =
     ∷ record { number = 14; got = secondsMayBe 1 2 0 86_401; want = 0 ∷ 0 ∷ 1 ∷ 0 ∷ [] }
     ∷ record { number = 14; got = secondsMayBe 1 2 0 172_800; want = 0 ∷ 0 ∷ 1 ∷ 0 ∷ [] }
     ∷ record { number = 14; got = secondsMayBe 1 2 0 172_801; want = 0 ∷ 0 ∷ 0 ∷ 0 ∷ [] }
-    ∷ record { number = 14; got = operatedOnUnits 0 0 1 24 1; want = 0 ∷ 0 ∷ 0 ∷ 0 ∷ 0 ∷ [] }
-    ∷ record { number = 14; got = operatedOnUnits 0 0 1 23 1; want = 10 ∷ 0 ∷ 0 ∷ 0 ∷ 0 ∷ [] }
-    ∷ record { number = 14; got = operatedOnUnits 1 0 3 3_600 3; want = 0 ∷ 0 ∷ 0 ∷ 0 ∷ 0 ∷ [] }
-    ∷ record { number = 14; got = operatedOnUnits 1 0 3 3_599 3; want = 10 ∷ 0 ∷ 0 ∷ 0 ∷ 0 ∷ [] }
-    ∷ record { number = 14; got = operatedOnUnits 2 0 3 60 3; want = 0 ∷ 0 ∷ 0 ∷ 0 ∷ 0 ∷ [] }
-    ∷ record { number = 14; got = operatedOnUnits 1 0 2 60 2; want = 0 ∷ 0 ∷ 0 ∷ 0 ∷ 0 ∷ [] }
-    ∷ record { number = 14; got = operatedOnUnits 0 1 3 86_401 3; want = 0 ∷ 0 ∷ 0 ∷ 0 ∷ 0 ∷ [] }
-    ∷ record { number = 14; got = operatedOnUnits 3 1 0 86_401 3; want = 0 ∷ 0 ∷ 0 ∷ 0 ∷ 0 ∷ [] }
-    ∷ record { number = 14; got = operatedOnUnits 1 23 1 1 0; want = 0 ∷ 0 ∷ 0 ∷ 0 ∷ 0 ∷ [] }
+    ∷ record { number = 14; got = operatedOnUnits 0 0 1 24 1; want = 0 ∷ 0 ∷ 0 ∷ 0 ∷ 0 ∷ 0 ∷ 0 ∷ [] }
+    ∷ record { number = 14; got = operatedOnUnits 0 0 1 23 1; want = 10 ∷ 0 ∷ 0 ∷ 0 ∷ 0 ∷ 0 ∷ 0 ∷ [] }
+    ∷ record { number = 14; got = operatedOnUnits 1 0 3 3_600 3; want = 0 ∷ 0 ∷ 0 ∷ 0 ∷ 0 ∷ 0 ∷ 0 ∷ [] }
+    ∷ record { number = 14; got = operatedOnUnits 1 0 3 3_599 3; want = 10 ∷ 0 ∷ 0 ∷ 0 ∷ 0 ∷ 0 ∷ 0 ∷ [] }
+    ∷ record { number = 14; got = operatedOnUnits 2 0 3 60 3; want = 0 ∷ 0 ∷ 0 ∷ 0 ∷ 0 ∷ 0 ∷ 0 ∷ [] }
+    ∷ record { number = 14; got = operatedOnUnits 1 0 2 60 2; want = 0 ∷ 0 ∷ 0 ∷ 0 ∷ 0 ∷ 0 ∷ 0 ∷ [] }
+    ∷ record { number = 14; got = operatedOnUnits 0 1 3 86_401 3; want = 0 ∷ 0 ∷ 0 ∷ 0 ∷ 0 ∷ 0 ∷ 0 ∷ [] }
+    ∷ record { number = 14; got = operatedOnUnits 3 1 0 86_401 3; want = 0 ∷ 0 ∷ 0 ∷ 0 ∷ 0 ∷ 0 ∷ 0 ∷ [] }
+    ∷ record { number = 14; got = operatedOnUnits 1 23 1 1 0; want = 0 ∷ 0 ∷ 0 ∷ 0 ∷ 0 ∷ 0 ∷ 0 ∷ [] }
     ∷ scanCases
 
 -- 02, CR 3, numbered 13: "range −3..5 by −2 gives −10..6; by 0 gives 0..0". 7 × 142,857,143 is M + 1
@@ -228,36 +280,36 @@ productCases =
     ∷ record { number = 13; got = judged (productIs (minus 142_857_142) (pos 0) (minus 7) (pos 0)); want = 0 ∷ 0 ∷ 0 ∷ 0 ∷ [] }
     ∷ record { number = 13; got = judged (productIs (minus 142_857_143) (pos 0) (minus 7) (pos 0)); want = 3 ∷ 2 ∷ 0 ∷ 0 ∷ [] }
     ∷ record { number = 13; got = judged (productIs (pos 0) (pos 0) (minus 1_000_000_001) (pos 0)); want = 3 ∷ 2 ∷ 0 ∷ 0 ∷ [] }
-    ∷ record { number = 13; got = operatedWith (pos 5) (minus 10); want = 0 ∷ 0 ∷ 0 ∷ 0 ∷ 0 ∷ [] }
-    ∷ record { number = 13; got = operatedWith (minus 3) (pos 6); want = 0 ∷ 0 ∷ 0 ∷ 0 ∷ 0 ∷ [] }
-    ∷ record { number = 13; got = operatedWith (pos 3) (pos 6); want = 10 ∷ 0 ∷ 0 ∷ 0 ∷ 0 ∷ [] }
+    ∷ record { number = 13; got = operatedWith (pos 5) (minus 10); want = 0 ∷ 0 ∷ 0 ∷ 0 ∷ 0 ∷ 0 ∷ 0 ∷ [] }
+    ∷ record { number = 13; got = operatedWith (minus 3) (pos 6); want = 0 ∷ 0 ∷ 0 ∷ 0 ∷ 0 ∷ 0 ∷ 0 ∷ [] }
+    ∷ record { number = 13; got = operatedWith (pos 3) (pos 6); want = 10 ∷ 0 ∷ 0 ∷ 0 ∷ 0 ∷ 0 ∷ 0 ∷ [] }
     ∷ amountCases
 
 -- 02, CR 2, numbered 12: the first entity, in the effects' order, that blocks the wanted outcome, or with −1 outcome 0
 unfoldable pub blockedCases : List Case
 blockedCases =
-    record { number = 12; got = operatedOnThree 0 0 1 (pos 0); want = 11 ∷ 2 ∷ 0 ∷ 0 ∷ 0 ∷ 0 ∷ 1 ∷ [] }
-    ∷ record { number = 12; got = operatedOnThree 1 0 0 (pos 0); want = 11 ∷ 0 ∷ 0 ∷ 0 ∷ 1 ∷ 0 ∷ 0 ∷ [] }
-    ∷ record { number = 12; got = operatedOnThree 1 1 1 (pos 0); want = 11 ∷ 2 ∷ 0 ∷ 0 ∷ 1 ∷ 1 ∷ 1 ∷ [] }
-    ∷ record { number = 12; got = operatedOnThree 0 1 1 (pos 1); want = 11 ∷ 1 ∷ 0 ∷ 0 ∷ 0 ∷ 1 ∷ 1 ∷ [] }
-    ∷ record { number = 12; got = operatedOnThree 0 0 1 (pos 1); want = 11 ∷ 0 ∷ 0 ∷ 0 ∷ 0 ∷ 0 ∷ 1 ∷ [] }
-    ∷ record { number = 12; got = operatedOnThree 0 1 1 (negsuc 0); want = 11 ∷ 2 ∷ 0 ∷ 0 ∷ 0 ∷ 1 ∷ 1 ∷ [] }
-    ∷ record { number = 12; got = operatedOnThree 0 1 0 (negsuc 0); want = 0 ∷ 0 ∷ 0 ∷ 0 ∷ 1 ∷ 0 ∷ 1 ∷ [] }
+    record { number = 12; got = operatedOnThree 0 0 1 (pos 0); want = 11 ∷ 2 ∷ 0 ∷ 0 ∷ 0 ∷ 0 ∷ 0 ∷ 1 ∷ 0 ∷ 0 ∷ 2 ∷ 0 ∷ 1 ∷ [] }
+    ∷ record { number = 12; got = operatedOnThree 1 0 0 (pos 0); want = 11 ∷ 0 ∷ 0 ∷ 0 ∷ 0 ∷ 0 ∷ 1 ∷ 1 ∷ 0 ∷ 0 ∷ 2 ∷ 0 ∷ 0 ∷ [] }
+    ∷ record { number = 12; got = operatedOnThree 1 1 1 (pos 0); want = 11 ∷ 2 ∷ 0 ∷ 0 ∷ 0 ∷ 0 ∷ 1 ∷ 1 ∷ 0 ∷ 1 ∷ 2 ∷ 0 ∷ 1 ∷ [] }
+    ∷ record { number = 12; got = operatedOnThree 0 1 1 (pos 1); want = 11 ∷ 1 ∷ 0 ∷ 0 ∷ 0 ∷ 0 ∷ 0 ∷ 1 ∷ 0 ∷ 1 ∷ 2 ∷ 0 ∷ 1 ∷ [] }
+    ∷ record { number = 12; got = operatedOnThree 0 0 1 (pos 1); want = 11 ∷ 0 ∷ 0 ∷ 0 ∷ 0 ∷ 0 ∷ 0 ∷ 1 ∷ 0 ∷ 0 ∷ 2 ∷ 0 ∷ 1 ∷ [] }
+    ∷ record { number = 12; got = operatedOnThree 0 1 1 (negsuc 0); want = 11 ∷ 2 ∷ 0 ∷ 0 ∷ 0 ∷ 0 ∷ 0 ∷ 1 ∷ 0 ∷ 1 ∷ 2 ∷ 0 ∷ 1 ∷ [] }
+    ∷ record { number = 12; got = operatedOnThree 0 1 0 (negsuc 0); want = 0 ∷ 0 ∷ 0 ∷ 0 ∷ 0 ∷ 0 ∷ 1 ∷ 1 ∷ 0 ∷ 0 ∷ 2 ∷ 0 ∷ 1 ∷ [] }
     ∷ productCases
 
 -- 02, CR 1, numbered 11: both outcomes start from state 0, and none from state 1
 unfoldable pub wantedCases : List Case
 wantedCases =
-    record { number = 11; got = operatedFrom 0 (pos 0); want = 0 ∷ 0 ∷ 0 ∷ 0 ∷ 1 ∷ [] }
-    ∷ record { number = 11; got = operatedFrom 0 (pos 1); want = 0 ∷ 0 ∷ 1 ∷ 0 ∷ 2 ∷ [] }
-    ∷ record { number = 11; got = operatedFrom 0 (negsuc 0); want = 16 ∷ 0 ∷ 0 ∷ 0 ∷ 0 ∷ [] }
-    ∷ record { number = 11; got = operatedFrom 1 (negsuc 0); want = 11 ∷ 0 ∷ 0 ∷ 0 ∷ 1 ∷ [] }
-    ∷ record { number = 11; got = operatedFrom 1 (pos 1); want = 11 ∷ 0 ∷ 0 ∷ 0 ∷ 1 ∷ [] }
-    ∷ record { number = 11; got = operatedFrom 0 (pos 2); want = 5 ∷ 0 ∷ 0 ∷ 0 ∷ 0 ∷ [] }
-    ∷ record { number = 11; got = operatedFrom 0 (negsuc 1); want = 5 ∷ 0 ∷ 0 ∷ 0 ∷ 0 ∷ [] }
-    ∷ record { number = 11; got = ranFrom 1 1 0 (pos 1); want = 0 ∷ 0 ∷ 0 ∷ 2 ∷ 2 ∷ 0 ∷ 3 ∷ [] }
-    ∷ record { number = 11; got = ranFrom 1 1 0 (negsuc 0); want = 0 ∷ 0 ∷ 2 ∷ 2 ∷ 0 ∷ 0 ∷ 4 ∷ [] }
-    ∷ record { number = 11; got = ranFrom 1 0 0 (pos 2); want = 5 ∷ 0 ∷ 0 ∷ 0 ∷ 0 ∷ 9 ∷ 9 ∷ [] }
+    record { number = 11; got = operatedFrom 0 (pos 0); want = 0 ∷ 0 ∷ 0 ∷ 0 ∷ 0 ∷ 0 ∷ 1 ∷ [] }
+    ∷ record { number = 11; got = operatedFrom 0 (pos 1); want = 0 ∷ 0 ∷ 1 ∷ 0 ∷ 0 ∷ 0 ∷ 2 ∷ [] }
+    ∷ record { number = 11; got = operatedFrom 0 (negsuc 0); want = 16 ∷ 0 ∷ 0 ∷ 0 ∷ 0 ∷ 0 ∷ 0 ∷ [] }
+    ∷ record { number = 11; got = operatedFrom 1 (negsuc 0); want = 11 ∷ 0 ∷ 0 ∷ 0 ∷ 0 ∷ 0 ∷ 1 ∷ [] }
+    ∷ record { number = 11; got = operatedFrom 1 (pos 1); want = 11 ∷ 0 ∷ 0 ∷ 0 ∷ 0 ∷ 0 ∷ 1 ∷ [] }
+    ∷ record { number = 11; got = operatedFrom 0 (pos 2); want = 5 ∷ 0 ∷ 0 ∷ 0 ∷ 0 ∷ 0 ∷ 0 ∷ [] }
+    ∷ record { number = 11; got = operatedFrom 0 (negsuc 1); want = 5 ∷ 0 ∷ 0 ∷ 0 ∷ 0 ∷ 0 ∷ 0 ∷ [] }
+    ∷ record { number = 11; got = ranFrom 1 1 0 (pos 1); want = 0 ∷ 0 ∷ 0 ∷ 2 ∷ 0 ∷ 0 ∷ 2 ∷ 0 ∷ 3 ∷ [] }
+    ∷ record { number = 11; got = ranFrom 1 1 0 (negsuc 0); want = 0 ∷ 0 ∷ 2 ∷ 2 ∷ 0 ∷ 0 ∷ 0 ∷ 0 ∷ 4 ∷ [] }
+    ∷ record { number = 11; got = ranFrom 1 0 0 (pos 2); want = 5 ∷ 0 ∷ 0 ∷ 0 ∷ 0 ∷ 0 ∷ 0 ∷ 9 ∷ 9 ∷ [] }
     ∷ blockedCases
 
 unfoldable pub cases : List Case
@@ -268,9 +320,9 @@ cases =
     ∷ record { number = 1; got = listed 3; want = 0 ∷ 0 ∷ 1 ∷ 1 ∷ 1 ∷ 0 ∷ [] }
     ∷ record { number = 1; got = listed 4; want = 13 ∷ 0 ∷ 0 ∷ 0 ∷ 1 ∷ 0 ∷ [] }
     ∷ record { number = 1; got = wrote whole; want = 48 ∷ 9 ∷ 48 ∷ 9 ∷ 48 ∷ 9 ∷ 50 ∷ 10 ∷ 48 ∷ 9 ∷ 48 ∷ 9 ∷ 48 ∷ 9 ∷ 51 ∷ 10 ∷ 48 ∷ 9 ∷ 50 ∷ 9 ∷ 48 ∷ 9 ∷ 52 ∷ 10 ∷ 48 ∷ 9 ∷ 49 ∷ 9 ∷ 49 ∷ 10 ∷ [] }
-    ∷ record { number = 2; got = ranFrom 1 1 0 (pos 0); want = 0 ∷ 0 ∷ 0 ∷ 2 ∷ 1 ∷ 0 ∷ 2 ∷ [] }
-    ∷ record { number = 3; got = ranFrom 1 0 0 (negsuc 0); want = 0 ∷ 0 ∷ 1 ∷ 1 ∷ 0 ∷ 1 ∷ 0 ∷ [] }
-    ∷ record { number = 4; got = ranFrom 1 1 1 (negsuc 0); want = 0 ∷ 0 ∷ 2 ∷ 2 ∷ 1 ∷ 0 ∷ 4 ∷ [] }
+    ∷ record { number = 2; got = ranFrom 1 1 0 (pos 0); want = 0 ∷ 0 ∷ 0 ∷ 2 ∷ 0 ∷ 0 ∷ 1 ∷ 0 ∷ 2 ∷ [] }
+    ∷ record { number = 3; got = ranFrom 1 0 0 (negsuc 0); want = 0 ∷ 0 ∷ 1 ∷ 1 ∷ 0 ∷ 0 ∷ 0 ∷ 1 ∷ 0 ∷ [] }
+    ∷ record { number = 4; got = ranFrom 1 1 1 (negsuc 0); want = 0 ∷ 0 ∷ 2 ∷ 2 ∷ 0 ∷ 0 ∷ 1 ∷ 0 ∷ 4 ∷ [] }
     ∷ record { number = 5; got = row (countedAnswer (reachableAnswer whole (pos 0))) [] []; want = 0 ∷ 0 ∷ 7 ∷ 3 ∷ [] }
     ∷ record { number = 6; got = row (countAnswer (depthAnswer whole (pos 0))) [] []; want = 0 ∷ 0 ∷ 2 ∷ 0 ∷ [] }
     ∷ record { number = 7; got = judged sixRoutes; want = 1 ∷ 0 ∷ 0 ∷ 0 ∷ [] }
@@ -279,5 +331,5 @@ cases =
     ∷ record { number = 9; got = judged (sumWith 0); want = 0 ∷ 0 ∷ 0 ∷ 0 ∷ [] }
     ∷ record { number = 9; got = judged (sumWith 1); want = 3 ∷ 3 ∷ 0 ∷ 0 ∷ [] }
     ∷ record { number = 10; got = assembledWith 2 1; want = 6 ∷ 0 ∷ 0 ∷ 0 ∷ 2 ∷ [] }
-    ∷ record { number = 10; got = ranFrom 2 1 0 (pos 1); want = 6 ∷ 0 ∷ 0 ∷ 0 ∷ 0 ∷ 9 ∷ 9 ∷ [] }
+    ∷ record { number = 10; got = ranFrom 2 1 0 (pos 1); want = 6 ∷ 0 ∷ 0 ∷ 0 ∷ 0 ∷ 0 ∷ 0 ∷ 9 ∷ 9 ∷ [] }
     ∷ wantedCases

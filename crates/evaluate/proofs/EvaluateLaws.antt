@@ -1,13 +1,13 @@
 -- What stands once the ladder is climbed, and that the three calls' answers fit a signed word.
 -- Assumes nothing.
 use mathlib.Core.Path.{_≡_, refl}
-use mathlib.Core.Bool.{true}
+use mathlib.Core.Bool.{Bool, true, _&&_}
 use mathlib.Core.List.{List}
-use Prim.Native.Nat.{ℕ, _≤_}
+use Prim.Native.Nat.{ℕ, _≤_, _<_}
 use lib.IntN.{ℤ}
 use native.Mathlib.Omega.{arith}
 use borrow.Author.Tests.{ltb-true}
-use Rattle.tables.proofs.Bools.{tests, and-left, and-right}
+use Rattle.tables.proofs.Bools.{and-left, and-right}
 use Rattle.signed.specs.Words.{num}
 use Rattle.answer.specs.Number.{number}
 use Rattle.answer.specs.declared.Refusal.{Refusal}
@@ -23,19 +23,24 @@ use Rattle.facts.specs.Inner.{FactsIn, LengthsIn}
 use Rattle.facts.proofs.FaultLaws.{facts-in, lengths-in, fault-every}
 use Rattle.predicate.specs.Verdicts.{verdictsOf}
 use Rattle.predicate.proofs.VerdictLaws.{verdicts-true}
+use Rattle.records.specs.Accepted.{Accepted}
 use Rattle.records.specs.Operations.{outcomes}
+use Rattle.operation.specs.declared.Wanted.{Wanted}
 use Rattle.operation.specs.Outcomes.{wantedOf, goodWanted}
-use Rattle.operation.specs.States.{statesFault}
-use Rattle.operation.proofs.LentStates.{states-in, stray-every}
+use Rattle.instances.specs.Records.{LentStates, statesLent, recordsFault}
+use Rattle.instances.specs.Named.{gathered, has, covers}
+use Rattle.instances.proofs.Judging.{bad-every}
+use Rattle.instances.proofs.Gathering.{states-in}
+use Rattle.instances.proofs.Lengths.{lent-whole}
 use Rattle.attempt.specs.Inner.{Attemptable}
-use Rattle.attempt.proofs.AttemptLaws.{attempt-small}
+use Rattle.attempt.proofs.AttemptLaws.{attempt-small, refused-states}
 use Rattle.ladder.specs.declared.Climbed.{Climbed}
 use Rattle.ladder.specs.declared.Climbed.the-variants.{At, Stopped}
-use Rattle.ladder.specs.Ladder.{opened, climb, exists}
-use Rattle.ladder.proofs.ClimbLaws.{Past, passed, climbed-at, opened-at}
+use Rattle.ladder.specs.Ladder.{opened, exists, factsLent}
+use Rattle.ladder.proofs.ClimbLaws.{Past, passed, climbed-at, climbed-sheet, opened-at}
 use Rattle.ladder.proofs.LentLaws.{all-lent}
 use Rattle.ladder.proofs.Small.{Early, checked-early, early-small, rungs-every, climb-every, rungs-small, call-small}
-use Rattle.calls.specs.Evaluation.{assembleRungs, assembleAnswer, verdictsRungs, verdictsAnswer, wantedExists, operateRungs, operateClimb, operateAnswer}
+use Rattle.calls.specs.Evaluation.{attemptedOver, attemptedStatesOver, assembleRungs, assembleAnswer, verdictsRungs, verdictsAnswer, wantedExists, operateRungs, operateClimb, operateAnswer}
 use Rattle.evaluate.specs.Settled.{GoodFactsLent, LentOperation}
 
 -- ---- once the ladder is climbed
@@ -60,33 +65,62 @@ attemptable {s} {h} {t} a e v =
       persona = a .persona;
     }
 
--- what an operation asks, where nothing is refused
-pub asked : (s : List ℤ) (t : LentFacts) (states : List ℤ) (p o v : ℤ) {h : Header} {x : Climbed} → x ≡ operateClimb s t states p o v → x ≡ At h
-    → LentOperation s h t states (num p) (num o)
-unfolding operateRungs wantedExists
-asked s t states p o v {h} e q =
-    let w = climbed-at (opened s) (operateRungs s t states p o v) e q in
-    let g = passed (w .clear) in
-    let z = simp tests at (g .lengths) in
-    let y = and-left (exists p (h .personas)) (wantedExists s h o v) (g .numbers) in
-    let x =
-    and-left (exists o (h .operations)) (goodWanted (outcomes s h (num o)) (wantedOf v))
-    (and-right (exists p (h .personas)) (wantedExists s h o v) (g .numbers)) in
-    record {
-      known = record { sheet = opened-at s refl (w .sheet) .sheet; all = all-lent (z .0); faultless = g .facts };
-      lent = states-in s h states (z .1) (g .states);
-      persona = ltb-true _ _ y;
-      operation = ltb-true _ _ x;
-    }
+-- a refused attempt leaves the states as they were
+pub over-refused : (s : List ℤ) (h : Header) (t : LentFacts) (states : List ℤ) (p o : ℕ) (w : Wanted) {r : Refusal}
+    → attemptedOver s h t states p o w ≡ NoCount r → attemptedStatesOver s h t states p o w ≡ states
+over-refused s h t states p o w {r} e = refused-states s h _ _ states p o w r e
 
--- and that the operation may want the outcome
-pub asked-wanted : (s : List ℤ) (t : LentFacts) (states : List ℤ) (p o v : ℤ) {h : Header} → operateClimb s t states p o v ≡ At h
-    → goodWanted (outcomes s h (num o)) (wantedOf v) ≡ true
-unfolding operateRungs wantedExists
-asked-wanted s t states p o v {h} q =
-    let g = passed (climbed-at (opened s) (operateRungs s t states p o v) refl q .clear) in
-    and-right (exists o (h .operations)) (goodWanted (outcomes s h (num o)) (wantedOf v))
-    (and-right (exists p (h .personas)) (wantedExists s h o v) (g .numbers))
+-- where an operation may want the outcome, there is such an operation
+pub operation-exists : (s : List ℤ) (h : Header) (o v : ℤ) → wantedExists s h o v ≡ true → num o < h .operations
+unfolding wantedExists
+operation-exists s h o v p =
+    ltb-true _ _ (and-left (exists o (h .operations)) (goodWanted (outcomes s h (num o)) (wantedOf v)) p)
+
+-- what an operation asks, where nothing is refused
+module _ (s : List ℤ) (t : LentFacts) (q : LentStates) (p o v : ℤ) {h : Header} {x : Climbed} (e : x ≡ operateClimb s t q p o v) (a : x ≡ At h) where
+  abbrev way : Past (opened s) (operateRungs s t q p o v) h
+  way = climbed-at (opened s) (operateRungs s t q p o v) e a
+
+  abbrev sheet : Accepted s h
+  sheet = climbed-sheet s (operateRungs s t q p o v) e a
+
+  -- no record is at fault
+  pub asked-records : recordsFault s h (q .records) ≡ Done
+  unfolding operateRungs
+  asked-records = passed (way .clear) .states
+
+  -- the lengths are right
+  pub asked-lengths : (factsLent s h t ≡ true) × (statesLent h q ≡ true)
+  unfolding operateRungs
+  asked-lengths =
+      let l = passed (way .clear) .lengths in
+      (and-left (factsLent s h t) (statesLent h q) l, and-right (factsLent s h t) (statesLent h q) l)
+
+  -- what is named exists
+  named : (exists p (h .personas) && wantedExists s h o v && covers s h (has q) (num o)) ≡ true
+  unfolding operateRungs
+  named = passed (way .clear) .numbers
+
+  abbrev numbers : Bool
+  numbers = exists p (h .personas) && wantedExists s h o v
+
+  asked-operation : wantedExists s h o v ≡ true
+  asked-operation = and-right (exists p (h .personas)) (wantedExists s h o v) (and-left numbers (covers s h (has q) (num o)) named)
+
+  pub asked : LentOperation s h t (gathered h q) (num p) (num o)
+  unfolding operateRungs
+  asked =
+      record {
+        known = record { sheet = sheet; all = all-lent (asked-lengths .0); faultless = passed (way .clear) .facts };
+        lent = states-in s h q sheet asked-records;
+        persona = ltb-true _ _ (and-left (exists p (h .personas)) (wantedExists s h o v) (and-left numbers (covers s h (has q) (num o)) named));
+        operation = operation-exists s h o v asked-operation;
+      }
+
+  -- and that the operation may want the outcome
+  pub asked-wanted : goodWanted (outcomes s h (num o)) (wantedOf v) ≡ true
+  unfolding wantedExists
+  asked-wanted = and-right (exists o (h .operations)) (goodWanted (outcomes s h (num o)) (wantedOf v)) asked-operation
 
 -- ---- answers fit a signed word
 
@@ -97,42 +131,42 @@ module _ (s : List ℤ) (t : LentFacts) where
       fault-every s h t Early
       (λ k l. (record { number = omega arith; place = omega arith }, record { number = omega arith; place = omega arith }))
 
-  pub states-early : (states : List ℤ) (h : Header) → opened s ≡ At h → Every Early (statesFault s h states)
-  states-early states h e =
-      let few = opened-at s refl e .sheet .sized .limits .entities in
-      stray-every s h states Early (λ n l. record { number = omega arith; place = omega arith })
+  pub states-early : (q : LentStates) (h : Header) → statesLent h q ≡ true → Every Early (recordsFault s h (q .records))
+  states-early q h e =
+      let few = lent-whole h q e .few in
+      bad-every s h (q .records) Early (λ n l. record { number = omega arith; place = omega arith })
 
   pub facts-small : (h : Header) → opened s ≡ At h → SmallStatus (factsFault s h t)
   facts-small h e = early-small (factsFault s h t) (facts-early h e)
 
-  pub states-small : (states : List ℤ) (h : Header) → opened s ≡ At h → SmallStatus (statesFault s h states)
-  states-small states h e = early-small (statesFault s h states) (states-early states h e)
+  pub states-small : (q : LentStates) (h : Header) → statesLent h q ≡ true → SmallStatus (recordsFault s h (q .records))
+  states-small q h e = early-small (recordsFault s h (q .records)) (states-early q h e)
 
   pub assemble-small : SmallStatus (assembleAnswer s t)
   unfolding assembleRungs
   assemble-small =
-      call-small SmallStatus Refused (λ _. Done) (λ r p. p) s (assembleRungs s t) (λ h e. rungs-small _ _ _ _ (facts-small h e) tt)
+      call-small SmallStatus Refused (λ _. Done) (λ r p. p) s (assembleRungs s t) (λ h e. rungs-small _ _ _ _ (facts-small h e) (λ _. tt))
       (λ h e. tt)
 
   pub verdicts-small : (room : ℕ) → SmallStatus (verdictsAnswer s t room)
   unfolding verdictsRungs
   verdicts-small room =
-      call-small SmallStatus Refused (λ _. Done) (λ r p. p) s (verdictsRungs s t room) (λ h e. rungs-small _ _ _ _ (facts-small h e) tt)
+      call-small SmallStatus Refused (λ _. Done) (λ r p. p) s (verdictsRungs s t room) (λ h e. rungs-small _ _ _ _ (facts-small h e) (λ _. tt))
       (λ h e. tt)
 
-  pub operate-small : (states : List ℤ) (p o v : ℤ) → SmallCount (operateAnswer s t states p o v)
+  pub operate-small : (q : LentStates) (p o v : ℤ) → SmallCount (operateAnswer s t q p o v)
   unfolding operateRungs
-  operate-small states p o v =
-      call-small SmallCount NoCount _ (λ r p. p) s (operateRungs s t states p o v)
-      (λ h e. rungs-small _ _ _ _ (facts-small h e) (states-small states h e))
-      (λ h e. attempt-small (attemptable (asked s t states p o v refl e) refl refl) (wantedOf v))
+  operate-small q p o v =
+      call-small SmallCount NoCount _ (λ r p. p) s (operateRungs s t q p o v)
+      (λ h e. rungs-small _ _ _ _ (facts-small h e) (λ l. states-small q h (and-right (factsLent s h t) (statesLent h q) l)))
+      (λ h e. attempt-small (attemptable (asked s t q p o v refl e) refl refl) (wantedOf v))
 
 -- an operation call that stops on the ladder is refused 1 to 8
-pub operate-early : (s : List ℤ) (t : LentFacts) (states : List ℤ) (p o v : ℤ) {r : Refusal} → operateClimb s t states p o v ≡ Stopped r
+pub operate-early : (s : List ℤ) (t : LentFacts) (q : LentStates) (p o v : ℤ) {r : Refusal} → operateClimb s t q p o v ≡ Stopped r
     → number r ≤ 8
 unfolding operateRungs
-operate-early s t states p o v {r} e =
-    let k = climb-every Early s (operateRungs s t states p o v) (checked-early s)
+operate-early s t q p o v {r} e =
+    let k = climb-every Early s (operateRungs s t q p o v) (checked-early s)
     (λ h e. rungs-every Early _ _ _ _ (record { number = omega arith; place = omega arith }) (record { number = omega arith; place = omega arith })
-    (facts-early s t h e) (states-early s t states h e)) in
+    (facts-early s t h e) (λ l. states-early s t q h (and-right (factsLent s h t) (statesLent h q) l))) in
     (rw e at k) .number

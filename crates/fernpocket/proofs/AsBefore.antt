@@ -13,7 +13,6 @@ use Rattle.tables.proofs.Scanned.{Scanned, first-scan}
 use Rattle.signed.specs.Words.{num, eqZ}
 use Rattle.answer.specs.declared.Refusal.{Refusal}
 use Rattle.answer.specs.declared.Refusal.the-variants.{ManyOutcomes}
-use Rattle.answer.specs.declared.Status.{Status}
 use Rattle.answer.specs.declared.Count.{Count}
 use Rattle.answer.specs.declared.Count.the-variants.{Refused as NoCount}
 use Rattle.answer.specs.Number.{number}
@@ -22,6 +21,8 @@ use Rattle.layout.specs.declared.Header.{Header}
 use Rattle.layout.specs.Header.{headerOf}
 use Rattle.records.specs.Operations.{outcomes}
 use Rattle.facts.specs.Lent.{LentFacts}
+use Rattle.instances.specs.Records.{LentStates}
+use Rattle.instances.specs.Named.{gathered, scattered}
 use Rattle.operation.specs.declared.Choice.{Choice}
 use Rattle.operation.specs.declared.Choice.the-variants.{Outcome, Nothing, Several}
 use Rattle.operation.specs.declared.Wanted.the-variants.{Any}
@@ -31,8 +32,8 @@ use Rattle.operation.proofs.Choices.{Tally, none, one, several, tally, any-word
 use Rattle.attempt.specs.Attempts.{attemptAnswer, attempted, statesAfter, attemptedStates}
 use Rattle.ladder.specs.declared.Climbed.{Climbed}
 use Rattle.ladder.specs.declared.Climbed.the-variants.{At, Stopped}
-use Rattle.ladder.specs.Ladder.{opened, reached, climb, by, left, exists}
-use Rattle.ladder.proofs.ClimbLaws.{worked}
+use Rattle.ladder.specs.Ladder.{opened, by, left, exists}
+use Rattle.ladder.proofs.ClimbLaws.{worked, climb-same, by-same}
 use Rattle.calls.specs.Evaluation.{wantedExists, operateRungs, operateClimb, attemptedOver, attemptedStatesOver, operateAnswer, operateStates}
 use Rattle.evaluate.proofs.EvaluateLaws.{operate-early}
 use Rattle.fernpocket.specs.Before.{placeless, firstApplicable, firstChoice, attemptedBefore, rungsBefore, climbBefore, overBefore, operateBefore, statesBefore}
@@ -93,62 +94,54 @@ placeless-early : (r : Refusal) → number r ≤ 8 → placeless (countAnswer (N
 unfolding placeless eqZ
 placeless-early r l = rw (ne-eqb (number r) 11 (λ e. omega arith))
 
--- ---- the ladder: −1 is never refused
-
-climb-same : (o : Climbed) (f g : Header → Status) → ((h : Header) → f h ≡ g h) → climb o f ≡ climb o g
-unfolding climb by
-climb-same (At h) f g e = ap (λ (t : Status). reached t h) (e h)
-climb-same (Stopped r) f g e = refl
-
-by-same : {A : Type 0} (c : Climbed) (f : Refusal → A) (g k : Header → A) → ((h : Header) → c ≡ At h → g h ≡ k h) → by c f g ≡ by c f k
-unfolding by
-by-same (At h) f g k e = e h refl
-by-same (Stopped r) f g k e = refl
-
 -- ---- the call
 
-module _ (s : List ℤ) (lent : LentFacts) (states : List ℤ) (p o : ℤ) where
-  same-rungs : (h : Header) → operateRungs s lent states p o (negsuc 0) h ≡ rungsBefore s lent states p o h
+module _ (s : List ℤ) (lent : LentFacts) (q : LentStates) (p o : ℤ) where
+  abbrev over : Header → Count
+  over h = overBefore s h lent (gathered h q) (num p) (num o)
+
+  -- −1 is never refused
+  same-rungs : (h : Header) → operateRungs s lent q p o (negsuc 0) h ≡ rungsBefore s lent q p o h
   unfolding operateRungs rungsBefore wantedExists goodWanted
   same-rungs h = rw (any-word refl, and-yes (exists o (h .operations)))
 
-  same-climb : operateClimb s lent states p o (negsuc 0) ≡ climbBefore s lent states p o
+  same-climb : operateClimb s lent q p o (negsuc 0) ≡ climbBefore s lent q p o
   same-climb =
-      climb-same (opened s) (operateRungs s lent states p o (negsuc 0)) (rungsBefore s lent states p o) same-rungs
+      climb-same (opened s) (operateRungs s lent q p o (negsuc 0)) (rungsBefore s lent q p o) (λ h _. same-rungs h)
 
-  module _ (x : countAnswer (operateAnswer s lent states p o (negsuc 0)) .refusal ≡ pos 16 → ⊥) where
-    same-over : (h : Header) → operateClimb s lent states p o (negsuc 0) ≡ At h
-        → (placeless (countAnswer (attemptedOver s h lent states (num p) (num o) (wantedOf (negsuc 0))))
-        ≡ countAnswer (overBefore s h lent states (num p) (num o)))
-        × (attemptedStatesOver s h lent states (num p) (num o) (wantedOf (negsuc 0))
-        ≡ statesAfter s h states (num o) (overBefore s h lent states (num p) (num o)))
+  module _ (x : countAnswer (operateAnswer s lent q p o (negsuc 0)) .refusal ≡ pos 16 → ⊥) where
+    same-over : (h : Header) → operateClimb s lent q p o (negsuc 0) ≡ At h
+        → (placeless (countAnswer (attemptedOver s h lent (gathered h q) (num p) (num o) (wantedOf (negsuc 0))))
+        ≡ countAnswer (over h))
+        × (attemptedStatesOver s h lent (gathered h q) (num p) (num o) (wantedOf (negsuc 0))
+        ≡ statesAfter s h (gathered h q) (num o) (over h))
     unfolding attempted attemptedBefore attemptedStates chosen
     same-over h e =
-        let c = chosen s h states (num o) (wantedOf (negsuc 0)) in
+        let c = chosen s h (gathered h q) (num o) (wantedOf (negsuc 0)) in
         let k =
-        same-answer _ _ c (firstChoice (applicable s h states (num o)) (outcomes s h (num o)))
-        (rw (any-word refl) (any-first (applicable s h states (num o)) (blocker s h states (num o)) (outcomes s h (num o))))
+        same-answer _ _ c (firstChoice (applicable s h (gathered h q) (num o)) (outcomes s h (num o)))
+        (rw (any-word refl) (any-first (applicable s h (gathered h q) (num o)) (blocker s h (gathered h q) (num o)) (outcomes s h (num o))))
         (λ z. x (ap (λ (a : Count). countAnswer a .refusal) (sym (worked _ _ refl e refl) ∙ z))) in
-        (answer-placed _ _ c ∙ ap countAnswer k, states-placed s h states (num o) _ _ c ∙ ap (statesAfter s h states (num o)) k)
+        (answer-placed _ _ c ∙ ap countAnswer k, states-placed s h (gathered h q) (num o) _ _ c ∙ ap (statesAfter s h (gathered h q) (num o)) k)
 
-    answer-same : (c : Climbed) → operateClimb s lent states p o (negsuc 0) ≡ c
-        → placeless (countAnswer (by c NoCount (λ h. attemptedOver s h lent states (num p) (num o) (wantedOf (negsuc 0)))))
-        ≡ countAnswer (by c NoCount (λ h. overBefore s h lent states (num p) (num o)))
+    answer-same : (c : Climbed) → operateClimb s lent q p o (negsuc 0) ≡ c
+        → placeless (countAnswer (by c NoCount (λ h. attemptedOver s h lent (gathered h q) (num p) (num o) (wantedOf (negsuc 0)))))
+        ≡ countAnswer (by c NoCount (λ h. over h))
     unfolding by
     answer-same (At h) e = same-over h e .0
-    answer-same (Stopped r) e = placeless-early r (operate-early s lent states p o (negsuc 0) e)
+    answer-same (Stopped r) e = placeless-early r (operate-early s lent q p o (negsuc 0) e)
 
     pub before-unless-16 :
-        (placeless (countAnswer (operateAnswer s lent states p o (negsuc 0))) ≡ countAnswer (operateBefore s lent states p o))
-        × (operateStates s lent states p o (negsuc 0) ≡ statesBefore s lent states p o)
+        (placeless (countAnswer (operateAnswer s lent q p o (negsuc 0))) ≡ countAnswer (operateBefore s lent q p o))
+        × (operateStates s lent q p o (negsuc 0) ≡ statesBefore s lent q p o)
     before-unless-16 = (
-      answer-same (operateClimb s lent states p o (negsuc 0)) refl
-          ∙ ap (λ (c : Climbed). countAnswer (by c NoCount (λ h. overBefore s h lent states (num p) (num o)))) same-climb,
-      by-same (operateClimb s lent states p o (negsuc 0)) (λ _. states) _ _ (λ h e. same-over h e .1)
-          ∙ ap (λ (c : Climbed). left c states (λ h. statesAfter s h states (num o) (overBefore s h lent states (num p) (num o)))) same-climb,
+      answer-same (operateClimb s lent q p o (negsuc 0)) refl
+          ∙ ap (λ (c : Climbed). countAnswer (by c NoCount (λ h. over h))) same-climb,
+      by-same (operateClimb s lent q p o (negsuc 0)) (λ _. q .records) _ _ (λ h e. ap (scattered q) (same-over h e .1))
+          ∙ ap (λ (c : Climbed). left c (q .records) (λ h. scattered q (statesAfter s h (gathered h q) (num o) (over h)))) same-climb,
     )
 
   -- of one outcome there are not two
   pub one-never-16 : outcomes s (headerOf s) (num o) ≡ 1
-      → countAnswer (operateAnswer s lent states p o (negsuc 0)) .refusal ≡ pos 16 → ⊥
-  one-never-16 n e = let t = sixteen s lent states p o (negsuc 0) e .1 in omega (arith, t .order, t .exists)
+      → countAnswer (operateAnswer s lent q p o (negsuc 0)) .refusal ≡ pos 16 → ⊥
+  one-never-16 n e = let t = sixteen s lent q p o (negsuc 0) e .1 in omega (arith, t .order, t .exists)

@@ -37,11 +37,11 @@ use Rattle.predicate.specs.Verdicts.{whenNode}
 use Rattle.predicate.specs.Units.{secondsOf}
 use Rattle.predicate.proofs.UnitLaws.{sum-seconds, difference-seconds, comparison-seconds}
 use Rattle.operation.specs.Mask.{inMask}
-use Rattle.operation.specs.States.{present}
 use Rattle.operation.specs.Outcomes.{moves, applicable}
 use Rattle.operation.proofs.Movers.{moves-true}
+use Rattle.instances.specs.Records.{LentStates, count, entityAt, stateAt}
 use Rattle.walks.specs.Paths.{paths, WholeList}
-use Rattle.listing.specs.Lists.{Call, First, nexts, count}
+use Rattle.listing.specs.Lists.{Call, First, nexts, count as pathCount}
 use Rattle.walks.proofs.OnlyList.{paths-whole, only-list}
 use Rattle.reach.specs.Reached.{Reached, statesIn}
 use Rattle.calls.specs.Evaluation.{assembleAnswer, assembleValues, verdictsAnswer, verdictsVerdicts, operateAnswer, operateStates}
@@ -50,8 +50,11 @@ use Rattle.calls.specs.Reports.{reachableAnswer}
 use Rattle.calls.specs.Lists.{publicCall, publicCalls, ListedNumbers}
 use Rattle.flows.proofs.PublicListing.{public-numbers, public-whole}
 use Rattle.fernpocket.specs.Before.{placeless, operateBefore, statesBefore}
-use Rattle.fernpocket.specs.Promised.{Went, WasRefused, FlowReady, readTo13, RanPath, TwoApply, OneApplies, Operated, Blocked, NoneApplies, Decided, Foreseen, Pairs, RefusedAt, elementsOfRule, bodyTrue}
+use Rattle.fernpocket.specs.OneEach.{oneRecords, oneEach, oneOperateAnswer, oneOperateStates, oneRunAnswer, oneRunPath, oneRunStates}
+use Rattle.fernpocket.specs.Promised.{presentStates, OnlyNamed, touches, flowTouches, SameRead, Went, WasRefused, FlowReady, readTo13, RanPath, TwoApply, OneApplies, Operated, Blocked, NoneApplies, Decided, Foreseen, Pairs, RefusedAt, elementsOfRule, bodyTrue}
 use Rattle.fernpocket.proofs.AsBefore.{before-unless-16, one-never-16}
+use Rattle.fernpocket.proofs.OneEach.{one-operates, one-runs}
+use Rattle.fernpocket.proofs.Instances.{operate-named, run-named, operate-passes, run-passes, operate-reads, run-reads}
 use Rattle.fernpocket.proofs.Quantified.{for-all-lent, exists-lent}
 use Rattle.fernpocket.proofs.Covered.{covered, applied-covered, still-reached}
 use Rattle.fernpocket.proofs.InNumbers.{went-is, listable, ready-sheet, ready-flow, read-same, ran-path, operated, mask-reached, mask-scans}
@@ -85,14 +88,14 @@ pub refused-verdicts : (s : List ℤ) (lent : LentFacts) (verdicts : List ℤ)
     → verdictsVerdicts s lent verdicts ≡ verdicts
 refused-verdicts = verdicts-kept
 
-pub refused-operate : (s : List ℤ) (lent : LentFacts) (states : List ℤ) (persona operation wanted : ℤ)
+pub refused-operate : (s : List ℤ) (lent : LentFacts) (states : LentStates) (persona operation wanted : ℤ)
     → WasRefused (countAnswer (operateAnswer s lent states persona operation wanted))
-    → operateStates s lent states persona operation wanted ≡ states
+    → operateStates s lent states persona operation wanted ≡ states .records
 refused-operate = operate-kept
 
-pub refused-run : (s : List ℤ) (lent : LentFacts) (states : List ℤ) (flow : ℤ) (wanted : List ℤ) (path : List ℕ)
+pub refused-run : (s : List ℤ) (lent : LentFacts) (states : LentStates) (flow : ℤ) (wanted : List ℤ) (path : List ℕ)
     → WasRefused (countedAnswer (runAnswer s lent states flow wanted path))
-    → (runPath s lent states flow wanted path ≡ path) × (runStates s lent states flow wanted path ≡ states)
+    → (runPath s lent states flow wanted path ≡ path) × (runStates s lent states flow wanted path ≡ states .records)
 refused-run s lent states flow wanted path x =
     (run-path-kept s lent states flow wanted path x, run-states-kept s lent states flow wanted path x)
 
@@ -104,11 +107,16 @@ refused-next = next-kept
 
 -- ---- demand 2: operations, and what the reports say of them
 
-module _ (s : List ℤ) (lent : LentFacts) (states : List ℤ) (persona operation wanted : ℤ) where
+module _ (s : List ℤ) (lent : LentFacts) (states : LentStates) (persona operation wanted : ℤ) where
+  -- the records, as they are lent and as they are left
+  abbrev before : List ℤ
+  before = states .records
+
   abbrev after : List ℤ
   after = operateStates s lent states persona operation wanted
 
-  -- An operation that goes through makes the changes of its chosen outcome that start from the present states, and no others.
+  -- An operation that goes through makes the changes of its chosen outcome that start from the present states, and no others. Of a call, the
+  -- present states are those of the instances that it names.
   pub operate-changes : (j : ℕ) → Went (countAnswer (operateAnswer s lent states persona operation wanted)) j
       → Operated s lent states persona operation wanted j
   operate-changes j w =
@@ -116,53 +124,60 @@ module _ (s : List ℤ) (lent : LentFacts) (states : List ℤ) (persona operatio
 
   -- 02, CR 1. Of the calls that get as far as the states: a wanted outcome that is applicable is taken;
   pub wanted-taken : Decided (countAnswer (operateAnswer s lent states persona operation wanted))
-      → (k : ℕ) → wanted ≡ pos k → applicable s (headerOf s) states (num operation) k ≡ true
+      → (k : ℕ) → wanted ≡ pos k → applicable s (headerOf s) (presentStates s states) (num operation) k ≡ true
       → Went (countAnswer (operateAnswer s lent states persona operation wanted)) k
   wanted-taken = wanted-goes s lent states persona operation wanted
 
   -- with −1, the only one that is applicable is.
   pub only-taken : Decided (countAnswer (operateAnswer s lent states persona operation wanted))
-      → wanted ≡ negsuc 0 → (j : ℕ) → OneApplies s states (num operation) j
+      → wanted ≡ negsuc 0 → (j : ℕ) → OneApplies s (presentStates s states) (num operation) j
       → Went (countAnswer (operateAnswer s lent states persona operation wanted)) j
   only-taken = only-goes s lent states persona operation wanted
 
   -- Refused 11, the wanted outcome is not applicable, or with −1 none is. CR 2: the place is the first entity that blocks the wanted outcome, or
   -- with −1 the outcome numbered 0.
   pub eleven-none : countAnswer (operateAnswer s lent states persona operation wanted) .refusal ≡ pos 11
-      → NoneApplies s states operation wanted (countAnswer (operateAnswer s lent states persona operation wanted) .place)
+      → NoneApplies s (presentStates s states) operation wanted (countAnswer (operateAnswer s lent states persona operation wanted) .place)
   eleven-none = eleven s lent states persona operation wanted
 
   -- Of the calls that get as far as the states, exactly those are refused 16 that carry −1 and have two applicable outcomes or more.
   pub sixteen-two : Decided (countAnswer (operateAnswer s lent states persona operation wanted))
       → (countAnswer (operateAnswer s lent states persona operation wanted) .refusal ≡ pos 16)
-      ↔ ((wanted ≡ negsuc 0) × TwoApply s states (num operation))
+      ↔ ((wanted ≡ negsuc 0) × TwoApply s (presentStates s states) (num operation))
   sixteen-two d =
       (sixteen s lent states persona operation wanted, λ t. two-sixteen s lent states persona operation wanted d (t .0) (t .1))
 
-  module _ (n : ℕ) (l : n < headerOf s .entities) where
-    -- Whatever state an operation call changed, S3a and S4 answer yes to for the persona who made it.
-    pub change-foreseen : (present states n ≡ present after n → ⊥) → Foreseen s persona operation n (present states n) (present after n)
+  -- For each effect of the outcome answered that started from its entity's state, also one that leads back to that state, S3a and S4 answer yes
+  -- for the persona who made it.
+  pub effect-foreseen : (n : ℕ) → n < headerOf s .entities → (j e : ℕ)
+      → Went (countAnswer (operateAnswer s lent states persona operation wanted)) j
+      → moves s (headerOf s) (presentStates s states) (num operation) j n e ≡ true
+      → Foreseen s persona operation n (effect s (headerOf s) e .w1) (effect s (headerOf s) e .w2)
+  effect-foreseen n l j e w m =
+      let y =
+      applied-covered s lent states persona operation wanted n l j e
+      (went-is (operateAnswer s lent states persona operation wanted) w)
+      (moves-true s (headerOf s) (presentStates s states) (num operation) j n e m) in
+      record { admissible = ap countAnswer (y .0); caused = ap countAnswer (y .1) }
+
+  -- Of record i, which is of entity n:
+  module _ (i : ℕ) (l : i < count before) where
+    abbrev n : ℕ
+    n = entityAt before i
+
+    -- whatever state an operation call changed, S3a and S4 answer yes to for the persona who made it;
+    pub change-foreseen : (num (stateAt before i) ≡ num (stateAt after i) → ⊥)
+        → Foreseen s persona operation n (num (stateAt before i)) (num (stateAt after i))
     change-foreseen x =
-        let y = covered s lent states persona operation wanted n l x in
+        let y = covered s lent states persona operation wanted i l x in
         record { admissible = ap countAnswer (y .0); caused = ap countAnswer (y .1) }
 
-    -- And so for each effect of the outcome answered that started from its entity's state, also one that leads back to that state.
-    pub effect-foreseen : (j e : ℕ) → Went (countAnswer (operateAnswer s lent states persona operation wanted)) j
-        → moves s (headerOf s) states (num operation) j n e ≡ true
-        → Foreseen s persona operation n (effect s (headerOf s) e .w1) (effect s (headerOf s) e .w2)
-    effect-foreseen j e w m =
-        let y =
-        applied-covered s lent states persona operation wanted n l j e
-        (went-is (operateAnswer s lent states persona operation wanted) w)
-        (moves-true s (headerOf s) states (num operation) j n e m) in
-        record { admissible = ap countAnswer (y .0); caused = ap countAnswer (y .1) }
-
-    -- A state that S2's mask has is led by an operation call to one that it has.
+    -- a state that S2's mask has is led by an operation call to one that it has.
     pub reached-stays : (mask : ℕ) → Went (countedAnswer (reachableAnswer s (pos n))) mask
-        → inMask mask (present states n) ≡ true → inMask mask (present after n) ≡ true
+        → inMask mask (num (stateAt before i)) ≡ true → inMask mask (num (stateAt after i)) ≡ true
     reached-stays mask w b =
         let is = rw (num-of n) at (mask-reached s (pos n) mask w) in
-        is (present after n) .0 (still-reached s lent states persona operation wanted n l (is (present states n) .1 b))
+        is (num (stateAt after i)) .0 (still-reached s lent states persona operation wanted i l (is (num (stateAt before i)) .1 b))
 
 -- No two entities are the first that blocks an outcome, so that `eleven-none` says which number the place is.
 pub one-blocks : (s states : List ℤ) (operation j n m : ℕ) → Blocked s states operation j n → Blocked s states operation j m → n ≡ m
@@ -170,7 +185,7 @@ one-blocks = one-blocked
 
 -- With −1 an operation call answers and leaves what 01's own rule, the first applicable outcome, answered and left, but for the place of 11,
 -- unless it is refused 16;
-pub as-before : (s : List ℤ) (lent : LentFacts) (states : List ℤ) (persona operation : ℤ)
+pub as-before : (s : List ℤ) (lent : LentFacts) (states : LentStates) (persona operation : ℤ)
     → (countAnswer (operateAnswer s lent states persona operation (negsuc 0)) .refusal ≡ pos 16 → ⊥)
     → (placeless (countAnswer (operateAnswer s lent states persona operation (negsuc 0)))
     ≡ countAnswer (operateBefore s lent states persona operation))
@@ -178,7 +193,7 @@ pub as-before : (s : List ℤ) (lent : LentFacts) (states : List ℤ) (persona o
 as-before = before-unless-16
 
 -- and an operation with one outcome never is.
-pub one-outcome-as-before : (s : List ℤ) (lent : LentFacts) (states : List ℤ) (persona operation : ℤ)
+pub one-outcome-as-before : (s : List ℤ) (lent : LentFacts) (states : LentStates) (persona operation : ℤ)
     → outcomes s (headerOf s) (num operation) ≡ 1
     → (placeless (countAnswer (operateAnswer s lent states persona operation (negsuc 0)))
     ≡ countAnswer (operateBefore s lent states persona operation))
@@ -291,14 +306,14 @@ module _ {s : List ℤ} {flow : ℤ} {path : List ℕ} (u : FlowReady s flow pat
   -- A first and then nexts until 13 list every path, each once, in the stated order: whatever list has them all so, it is that list.
   pub whole-listing : {ps : List (List ℕ)} → WholeList s (headerOf s) (num flow) ps → (k : ℕ) → length ps < k
       → readTo13 s flow k (publicCall s flow path First) ≡ ps
-  unfolding count
+  unfolding pathCount
   whole-listing {ps} w k l =
       let only : ps ≡ paths s (headerOf s) (num flow) = paths-only w in
       read-same u k ∙ public-whole (listable u) k (rw only at l) .0 ∙ sym only
 
--- Any run that is not refused, whatever its facts and states and whatever its steps want, takes the routes of one of these paths, and answers
--- that path's terminal and length.
-pub run-takes-listed-path : (s : List ℤ) (lent : LentFacts) (states : List ℤ) (flow : ℤ) (wanted : List ℤ) (path : List ℕ)
+-- Any run that is not refused, whatever its facts, states and instances and whatever its steps want, takes the routes of one of these paths, and
+-- answers that path's terminal and length.
+pub run-takes-listed-path : (s : List ℤ) (lent : LentFacts) (states : LentStates) (flow : ℤ) (wanted : List ℤ) (path : List ℕ)
     → countedAnswer (runAnswer s lent states flow wanted path) .refusal ≡ pos 0
     → RanPath s lent states flow wanted path
 run-takes-listed-path = ran-path
@@ -317,3 +332,59 @@ module _ (s : List ℤ) (t : LentFacts) (verdicts : List ℤ) (went : statusAnsw
   pub exists-verdict : num (nodeWords s (headerOf s) (whenNode s (headerOf s) k) .w0) ≡ 15
       → (getD (verdictsVerdicts s t verdicts) k (pos 0) ≡ pos 1) ↔ ((j : ℕ) × (j < elementsOfRule s t k) × (bodyTrue s t k j ≡ true))
   exists-verdict = exists-lent s t verdicts went k rule
+
+-- ---- 02, CR 7: instances
+
+-- Every instance that is not named keeps its state, and no record is added, removed or moved, whether the call goes through or not.
+pub operate-only-named : (s : List ℤ) (lent : LentFacts) (states : LentStates) (persona operation wanted : ℤ)
+    → OnlyNamed states (operateStates s lent states persona operation wanted)
+operate-only-named = operate-named
+
+pub run-only-named : (s : List ℤ) (lent : LentFacts) (states : LentStates) (flow : ℤ) (wanted : List ℤ) (path : List ℕ)
+    → OnlyNamed states (runStates s lent states flow wanted path)
+run-only-named = run-named
+
+-- Every instance of an entity that no effect names keeps its state: no effect of the operation, or of the operations of all the flow's steps.
+pub operate-untouched : (s : List ℤ) (lent : LentFacts) (states : LentStates) (persona operation wanted : ℤ) (i : ℕ)
+    → i < count (states .records)
+    → touches s (headerOf s) (num operation) (entityAt (states .records) i) ≡ false
+    → stateAt (operateStates s lent states persona operation wanted) i ≡ stateAt (states .records) i
+operate-untouched = operate-passes
+
+pub run-untouched : (s : List ℤ) (lent : LentFacts) (states : LentStates) (flow : ℤ) (wanted : List ℤ) (path : List ℕ) (i : ℕ)
+    → i < count (states .records)
+    → flowTouches s (headerOf s) (num flow) (entityAt (states .records) i) ≡ false
+    → stateAt (runStates s lent states flow wanted path) i ≡ stateAt (states .records) i
+run-untouched = run-passes
+
+-- "Only those that the effects of its operations touch are read": whatever instances are named for the other entities, and whether any record has
+-- them or not, a call answers and leaves the same.
+pub operate-only-read : (s : List ℤ) (lent : LentFacts) (a b : LentStates) (persona operation wanted : ℤ)
+    → SameRead (touches s (headerOf s) (num operation)) a b
+    → (countAnswer (operateAnswer s lent a persona operation wanted) ≡ countAnswer (operateAnswer s lent b persona operation wanted))
+    × (operateStates s lent a persona operation wanted ≡ operateStates s lent b persona operation wanted)
+operate-only-read s lent a b persona operation wanted r =
+    let x = operate-reads s lent a b persona operation wanted r in (ap countAnswer (x .0), x .1)
+
+pub run-only-read : (s : List ℤ) (lent : LentFacts) (a b : LentStates) (flow : ℤ) (wanted : List ℤ) (path : List ℕ)
+    → SameRead (flowTouches s (headerOf s) (num flow)) a b
+    → (countedAnswer (runAnswer s lent a flow wanted path) ≡ countedAnswer (runAnswer s lent b flow wanted path))
+    × (runPath s lent a flow wanted path ≡ runPath s lent b flow wanted path)
+    × (runStates s lent a flow wanted path ≡ runStates s lent b flow wanted path)
+run-only-read s lent a b flow wanted path r =
+    let x = run-reads s lent a b flow wanted path r in (ap countedAnswer (x .0), x .1, x .2)
+
+-- "One instance each, all numbered 0, must answer as the old form did": with one state for each entity, whatever they are and however many.
+pub one-each-operates : (s : List ℤ) (lent : LentFacts) (states : List ℤ) (persona operation wanted : ℤ)
+    → (countAnswer (operateAnswer s lent (oneEach states) persona operation wanted)
+    ≡ countAnswer (oneOperateAnswer s lent states persona operation wanted))
+    × (operateStates s lent (oneEach states) persona operation wanted ≡ oneRecords (oneOperateStates s lent states persona operation wanted))
+one-each-operates s lent states persona operation wanted =
+    let x = one-operates s lent states persona operation wanted in (ap countAnswer (x .0), x .1)
+
+pub one-each-runs : (s : List ℤ) (lent : LentFacts) (states : List ℤ) (flow : ℤ) (wanted : List ℤ) (path : List ℕ)
+    → (countedAnswer (runAnswer s lent (oneEach states) flow wanted path) ≡ countedAnswer (oneRunAnswer s lent states flow wanted path))
+    × (runPath s lent (oneEach states) flow wanted path ≡ oneRunPath s lent states flow wanted path)
+    × (runStates s lent (oneEach states) flow wanted path ≡ oneRecords (oneRunStates s lent states flow wanted path))
+one-each-runs s lent states flow wanted path =
+    let x = one-runs s lent states flow wanted path in (ap countedAnswer (x .0), x .1, x .2)

@@ -45,6 +45,9 @@ use Rattle.operation.proofs.Choices.{chosen-applies, nothing-place, about-any, 
 use Rattle.operation.proofs.Choices.{word-wanted, word-alone, word-none, word-not, word-several}
 use Rattle.operation.proofs.Blockers.{not-applicable, blocker-exists}
 use Rattle.facts.specs.Lent.{LentFacts}
+use Rattle.instances.specs.Records.{LentStates, entityAt}
+use Rattle.instances.specs.Named.{gathered, scattered}
+use Rattle.instances.proofs.Unchanged.{unchanged}
 use Rattle.facts.specs.Assembled.{assembled}
 use Rattle.predicate.specs.Verdicts.{verdictsOf}
 use Rattle.attempt.proofs.AttemptLaws.{chose-so, outcome-states, refused-states}
@@ -60,7 +63,7 @@ use Rattle.ladder.specs.declared.Climbed.{Climbed}
 use Rattle.ladder.specs.declared.Climbed.the-variants.{At, Stopped}
 use Rattle.ladder.specs.Ladder.{opened, by, left, exists}
 use Rattle.ladder.proofs.ClimbLaws.{worked, by-all, climbed-at, opened-at, opened-done}
-use Rattle.evaluate.proofs.EvaluateLaws.{operate-early, asked-wanted}
+use Rattle.evaluate.proofs.EvaluateLaws.{operate-early, asked-wanted, asked-records}
 use Rattle.calls.specs.Evaluation.{assembleClimb, assembleAnswer, assembleValues, verdictsClimb, verdictsAnswer, verdictsVerdicts}
 use Rattle.calls.specs.Evaluation.{operateClimb, attemptedOver, attemptedStatesOver, operateAnswer, operateStates}
 use Rattle.calls.specs.Flows.{flowClimb, firstAnswer, firstPath, nextAnswer, nextPath}
@@ -73,8 +76,8 @@ use Rattle.flows.proofs.PublicListing.{public-listing, run-takes-path}
 use Rattle.text.specs.Lines.{wordsOf, textOf}
 use Rattle.text.specs.Calls.{readAnswer, readBuffer, writeAnswer, writeBuffer, filled}
 use Rattle.reports.proofs.ReportLaws.{asked, MaskIs, reachable-is}
-use Rattle.fernpocket.specs.Promised.{Went, WasRefused, FlowReady, readTo13, RanPath, After, moved, stayed, TwoApply, OneApplies, Operated, Blocked, NoneApplies, Decided, Pairs, RefusedAt}
-use Rattle.fernpocket.proofs.Covered.{under-header, Made, made, made-after, attempt-ready}
+use Rattle.fernpocket.specs.Promised.{presentStates, Went, WasRefused, FlowReady, readTo13, RanPath, After, moved, stayed, TwoApply, OneApplies, Operated, Blocked, NoneApplies, Decided, Pairs, RefusedAt}
+use Rattle.fernpocket.proofs.Covered.{under-header, Made, made, made-entity, made-state, attempt-ready}
 
 -- ---- answers
 
@@ -132,7 +135,7 @@ module _ {s : List ℤ} {f : ℤ} {b : List ℕ} (u : FlowReady s f b) where
 
 -- ---- runs
 
-module _ (s : List ℤ) (lent : LentFacts) (states : List ℤ) (f : ℤ) (words : List ℤ) (b : List ℕ) where
+module _ (s : List ℤ) (lent : LentFacts) (states : LentStates) (f : ℤ) (words : List ℤ) (b : List ℕ) where
   pub ran-path : countedAnswer (runAnswer s lent states f words b) .refusal ≡ pos 0 → RanPath s lent states f words b
   ran-path e =
       let w = counted-done (runAnswer s lent states f words b) e in
@@ -167,10 +170,10 @@ unfolding by
 kept P (At h) f g old work k x = k h refl x
 kept P (Stopped r) f g old work k x = refl
 
-module _ (s : List ℤ) (lent : LentFacts) (states : List ℤ) (f : ℤ) (words : List ℤ) (b : List ℕ) where
+module _ (s : List ℤ) (lent : LentFacts) (states : LentStates) (f : ℤ) (words : List ℤ) (b : List ℕ) where
   -- no run is refused past the ladder
   runs : (h : Header) → runClimb s lent states f words (length b) ≡ At h
-      → WasRefused (countedAnswer (ranWalkOver s h lent states (num f) words)) → ⊥
+      → WasRefused (countedAnswer (ranWalkOver s h lent (gathered h states) (num f) words)) → ⊥
   runs h e x =
       x (ap (λ (a : Counted). countedAnswer a .refusal) (run-listed (runnable (going s lent states f words b refl e) refl refl) words .answers))
 
@@ -180,9 +183,9 @@ module _ (s : List ℤ) (lent : LentFacts) (states : List ℤ) (f : ℤ) (words 
         kept (λ (a : Counted). WasRefused (countedAnswer a)) (runClimb s lent states f words (length b)) NotCounted _ b _
         (λ h e y. absurd (runs h e y)) x
 
-    pub run-states-kept : runStates s lent states f words b ≡ states
+    pub run-states-kept : runStates s lent states f words b ≡ states .records
     run-states-kept =
-        kept (λ (a : Counted). WasRefused (countedAnswer a)) (runClimb s lent states f words (length b)) NotCounted _ states _
+        kept (λ (a : Counted). WasRefused (countedAnswer a)) (runClimb s lent states f words (length b)) NotCounted _ (states .records) _
         (λ h e y. absurd (runs h e y)) x
 
 module _ (s : List ℤ) (f : ℤ) (b : List ℕ) where
@@ -246,34 +249,37 @@ fate-after : {s : List ℤ} {h : Header} {states : List ℤ} {o j n : ℕ} {stat
 fate-after {s} {h} {states} {o} {j} {n} (Goes e m q) = moved e (true-moves s h states o j n e m) q
 fate-after {s} {h} {states} {o} {j} {n} (Stays f q) = stayed (λ e t. f e (moves-true s h states o j n e t)) q
 
-module _ (s : List ℤ) (lent : LentFacts) (states : List ℤ) (p o v : ℤ) where
+module _ (s : List ℤ) (lent : LentFacts) (q : LentStates) (p o v : ℤ) where
+  abbrev states : List ℤ
+  states = presentStates s q
+
   abbrev facts : List FactValue
   facts = assembled s (headerOf s) lent
 
   abbrev verdicts : List ℤ
   verdicts = verdictsOf s (headerOf s) facts
 
-  attempt-kept : (h : Header) (c : Count) → attemptedOver s h lent states (num p) (num o) (wantedOf v) ≡ c → WasRefused (countAnswer c)
-      → attemptedStatesOver s h lent states (num p) (num o) (wantedOf v) ≡ states
-  attempt-kept h (Is j) q x = absurd (x refl)
-  attempt-kept h (NoCount r) q x = refused-states s h _ _ states (num p) (num o) (wantedOf v) r q
+  attempt-kept : (h : Header) (st : List ℤ) (c : Count) → attemptedOver s h lent st (num p) (num o) (wantedOf v) ≡ c
+      → WasRefused (countAnswer c) → attemptedStatesOver s h lent st (num p) (num o) (wantedOf v) ≡ st
+  attempt-kept h st (Is j) a x = absurd (x refl)
+  attempt-kept h st (NoCount r) a x = refused-states s h _ _ st (num p) (num o) (wantedOf v) r a
 
-  pub operate-kept : WasRefused (countAnswer (operateAnswer s lent states p o v)) → operateStates s lent states p o v ≡ states
+  pub operate-kept : WasRefused (countAnswer (operateAnswer s lent q p o v)) → operateStates s lent q p o v ≡ q .records
   operate-kept x =
-      kept (λ (a : Count). WasRefused (countAnswer a)) (operateClimb s lent states p o v) NoCount _ states _
-      (λ h e y. attempt-kept h (attemptedOver s h lent states (num p) (num o) (wantedOf v)) refl y) x
+      kept (λ (a : Count). WasRefused (countAnswer a)) (operateClimb s lent q p o v) NoCount _ (q .records) _
+      (λ h e y. ap (scattered q) (attempt-kept h (gathered h q) _ refl y) ∙ unchanged s h q (asked-records s lent q p o v refl e)) x
 
   -- an answer that no rung of the ladder gives is the attempt's
-  past : (c : Count) → ((r : Refusal) → c ≡ NoCount r → 8 < number r) → operateAnswer s lent states p o v ≡ c
-      → Made s lent states p o v × (attemptedOver s (headerOf s) lent states (num p) (num o) (wantedOf v) ≡ c)
-  past c late q =
+  past : (c : Count) → ((r : Refusal) → c ≡ NoCount r → 8 < number r) → operateAnswer s lent q p o v ≡ c
+      → Made s lent q p o v × (attemptedOver s (headerOf s) lent states (num p) (num o) (wantedOf v) ≡ c)
+  past c late w =
       by-all
       (λ (a : Count). a ≡ c
-      → Made s lent states p o v × (attemptedOver s (headerOf s) lent states (num p) (num o) (wantedOf v) ≡ c))
-      (operateClimb s lent states p o v) NoCount _
-      (λ r e a. absurd (omega (arith, operate-early s lent states p o v e, late r (sym a))))
-      (λ h e a. (made s lent states p o v e, worked _ _ refl (made s lent states p o v e) refl ∙ q))
-      q
+      → Made s lent q p o v × (attemptedOver s (headerOf s) lent states (num p) (num o) (wantedOf v) ≡ c))
+      (operateClimb s lent q p o v) NoCount _
+      (λ r e a. absurd (omega (arith, operate-early s lent q p o v e, late r (sym a))))
+      (λ h e a. (made s lent q p o v e, worked _ _ refl (made s lent q p o v e) refl ∙ w))
+      w
 
   abbrev applies : ℕ → Bool
   applies = applicable s (headerOf s) states (num o)
@@ -284,16 +290,15 @@ module _ (s : List ℤ) (lent : LentFacts) (states : List ℤ) (p o v : ℤ) whe
   abbrev many : ℕ
   many = outcomes s (headerOf s) (num o)
 
-  pub operated : (j : ℕ) → operateAnswer s lent states p o v ≡ Is j → Operated s lent states p o v j
+  pub operated : (j : ℕ) → operateAnswer s lent q p o v ≡ Is j → Operated s lent q p o v j
   unfolding chosen
-  operated j q =
-      let k = past (Is j) (λ r e. let z : _≡_ {A = ℕ} 0 1 = cc in absurd (omega arith)) q in
-      let ready = attempt-ready s lent states p o v (k .0) in
+  operated j a =
+      let k = past (Is j) (λ r e. let z : _≡_ {A = ℕ} 0 1 = cc in absurd (omega arith)) a in
+      let ready = attempt-ready s lent q p o v (k .0) in
       let w = chose-so s (headerOf s) facts verdicts states (num p) (num o) (wantedOf v) (Outcome j) (k .1) in
       let c = chosen-applies applies blocks many (wantedOf v) j (w .chosen) in
       let few : j < 2 ^ 63 = omega (arith, c .0, operation-ok (ready .ready .accepted) (num o) (ready .ready .exists) .outcomes-few) in
-      let changed = made-after s lent states p o v (k .0)
-      ∙ outcome-states s (headerOf s) facts verdicts states (num p) (num o) (wantedOf v) j (k .1) in
+      let changed = outcome-states s (headerOf s) facts verdicts states (num p) (num o) (wantedOf v) j (k .1) in
       record {
         persona = w .allowed;
         holds = w .truth;
@@ -301,7 +306,9 @@ module _ (s : List ℤ) (lent : LentFacts) (states : List ℤ) (p o v : ℤ) whe
         applies = c .1;
         wanted = λ x. num-pos v (word-wanted applies blocks many v j (w .chosen) x) few;
         alone = λ e. word-alone applies blocks many v j (w .chosen) e .alone;
-        each = λ n l. rw changed (fate-after (fate (ready .ready) j n l));
+        each = λ i l x.
+            let n = made-entity s lent q p o v i l (k .0) in
+            rw (made-state s lent q p o v i l (k .0) x, changed) (fate-after (fate (ready .ready) j (entityAt (q .records) i) n));
       }
 
   -- an outcome that is not applicable is blocked
@@ -319,34 +326,34 @@ module _ (s : List ℤ) (lent : LentFacts) (states : List ℤ) (p o v : ℤ) whe
             (m .0, true-moves s (headerOf s) states (num o) j (effect s (headerOf s) d .w0) (m .0) (m .1));
       })
 
-  pub eleven : countAnswer (operateAnswer s lent states p o v) .refusal ≡ pos 11
-      → NoneApplies s states o v (countAnswer (operateAnswer s lent states p o v) .place)
+  pub eleven : countAnswer (operateAnswer s lent q p o v) .refusal ≡ pos 11
+      → NoneApplies s states o v (countAnswer (operateAnswer s lent q p o v) .place)
   unfolding chosen
   eleven e =
-      let n = natAbs (countAnswer (operateAnswer s lent states p o v) .place) in
-      let q = count-eleven (operateAnswer s lent states p o v) e in
-      let k = past (NoCount (NoOutcome n)) (λ r z. let y : NoOutcome n ≡ r = cc in rw (← y) (omega arith)) q in
+      let n = natAbs (countAnswer (operateAnswer s lent q p o v) .place) in
+      let a = count-eleven (operateAnswer s lent q p o v) e in
+      let k = past (NoCount (NoOutcome n)) (λ r z. let y : NoOutcome n ≡ r = cc in rw (← y) (omega arith)) a in
       let c = chose-so s (headerOf s) facts verdicts states (num p) (num o) (wantedOf v) (Nothing n) (k .1) .chosen in
-      let w = attempt-ready s lent states p o v (k .0) .ready in
+      let w = attempt-ready s lent q p o v (k .0) .ready in
       let at = nothing-place applies blocks many (wantedOf v) n c in
-      let wanted = word-not applies blocks many v n (asked-wanted s lent states p o v (k .0)) c in
+      let wanted = word-not applies blocks many v n (asked-wanted s lent q p o v refl (k .0)) c in
       let none = word-none applies blocks many v n c in
       record {
         wanted = wanted;
         none = none;
         entity = n;
-        is-place = ap (λ (a : Count). countAnswer a .place) q;
+        is-place = ap (λ (c : Count). countAnswer c .place) a;
         blocks-wanted = λ x. is-blocked w (num v) n (at ∙ ap blocks (about-one v x)) (wanted x);
         blocks-first = λ x.
             is-blocked w 0 n (at ∙ ap blocks (about-any x)) (none x 0 (operation-ok (w .accepted) (num o) (w .exists) .outcomes));
       }
 
-  pub sixteen : countAnswer (operateAnswer s lent states p o v) .refusal ≡ pos 16 → (v ≡ negsuc 0) × TwoApply s states (num o)
+  pub sixteen : countAnswer (operateAnswer s lent q p o v) .refusal ≡ pos 16 → (v ≡ negsuc 0) × TwoApply s states (num o)
   unfolding chosen
   sixteen e =
       let k =
       past (NoCount ManyOutcomes) (λ r z. let y : ManyOutcomes ≡ r = cc in rw (← y) (omega arith))
-      (count-sixteen (operateAnswer s lent states p o v) e) in
+      (count-sixteen (operateAnswer s lent q p o v) e) in
       let c = chose-so s (headerOf s) facts verdicts states (num p) (num o) (wantedOf v) Several (k .1) .chosen in
       let t = word-several applies blocks many v c in (
         t .0,
@@ -365,8 +372,8 @@ module _ (s : List ℤ) (lent : LentFacts) (states : List ℤ) (p o v : ℤ) whe
   value (Is n) z = (n, refl)
   value (NoCount r) z = absurd (number-some r z)
 
-  went-with : (j : ℕ) → operateAnswer s lent states p o v ≡ Is j → Went (countAnswer (operateAnswer s lent states p o v)) j
-  went-with j q = rw q (record { refusal = refl; value = refl })
+  went-with : (j : ℕ) → operateAnswer s lent q p o v ≡ Is j → Went (countAnswer (operateAnswer s lent q p o v)) j
+  went-with j a = rw a (record { refusal = refl; value = refl })
 
   -- of two applicable outcomes none is the only one
   two-alone : TwoApply s states (num o) → (j : ℕ) → ((i : ℕ) → i < many → applies i ≡ true → i ≡ j) → ⊥
@@ -376,41 +383,41 @@ module _ (s : List ℤ) (lent : LentFacts) (states : List ℤ) (p o v : ℤ) whe
       omega (arith, t .order)
 
   -- a wanted outcome that is applicable
-  pub wanted-goes : Decided (countAnswer (operateAnswer s lent states p o v)) → (k : ℕ) → v ≡ pos k → applies k ≡ true
-      → Went (countAnswer (operateAnswer s lent states p o v)) k
+  pub wanted-goes : Decided (countAnswer (operateAnswer s lent q p o v)) → (k : ℕ) → v ≡ pos k → applies k ≡ true
+      → Went (countAnswer (operateAnswer s lent q p o v)) k
   wanted-goes d k e t = go d
     where
       wanted : v ≡ negsuc 0 → ⊥
       wanted z = let y : _≡_ {A = ℕ} 0 1 = cc (sym e ∙ z) in omega arith
 
-      go : Decided (countAnswer (operateAnswer s lent states p o v)) → Went (countAnswer (operateAnswer s lent states p o v)) k
-      go (inl q) =
-          let w = value (operateAnswer s lent states p o v) q in
+      go : Decided (countAnswer (operateAnswer s lent q p o v)) → Went (countAnswer (operateAnswer s lent q p o v)) k
+      go (inl a) =
+          let w = value (operateAnswer s lent q p o v) a in
           let y : k ≡ w .0 = cc (sym e ∙ operated (w .0) (w .1) .wanted wanted) in
           went-with k (w .1 ∙ ap Is (sym y))
-      go (inr (inl q)) = absurd (true-false t (rw (e, num-of k) at (eleven q .wanted wanted)))
-      go (inr (inr q)) = absurd (wanted (sixteen q .0))
+      go (inr (inl a)) = absurd (true-false t (rw (e, num-of k) at (eleven a .wanted wanted)))
+      go (inr (inr a)) = absurd (wanted (sixteen a .0))
 
   -- with −1, the only one that is
-  pub only-goes : Decided (countAnswer (operateAnswer s lent states p o v)) → v ≡ negsuc 0 → (j : ℕ) → OneApplies s states (num o) j
-      → Went (countAnswer (operateAnswer s lent states p o v)) j
+  pub only-goes : Decided (countAnswer (operateAnswer s lent q p o v)) → v ≡ negsuc 0 → (j : ℕ) → OneApplies s states (num o) j
+      → Went (countAnswer (operateAnswer s lent q p o v)) j
   only-goes d e j r = go d
     where
-      go : Decided (countAnswer (operateAnswer s lent states p o v)) → Went (countAnswer (operateAnswer s lent states p o v)) j
-      go (inl q) =
-          let w = value (operateAnswer s lent states p o v) q in
+      go : Decided (countAnswer (operateAnswer s lent q p o v)) → Went (countAnswer (operateAnswer s lent q p o v)) j
+      go (inl a) =
+          let w = value (operateAnswer s lent q p o v) a in
           let y : w .0 ≡ j = r .alone (w .0) (operated (w .0) (w .1) .exists) (operated (w .0) (w .1) .applies) in
           went-with j (w .1 ∙ ap Is y)
-      go (inr (inl q)) = absurd (true-false (r .applies) (eleven q .none e j (r .exists)))
-      go (inr (inr q)) = absurd (two-alone (sixteen q .1) j (r .alone))
+      go (inr (inl a)) = absurd (true-false (r .applies) (eleven a .none e j (r .exists)))
+      go (inr (inr a)) = absurd (two-alone (sixteen a .1) j (r .alone))
 
   -- with −1 and two applicable outcomes, what is decided is 16
-  pub two-sixteen : Decided (countAnswer (operateAnswer s lent states p o v)) → v ≡ negsuc 0 → TwoApply s states (num o)
-      → countAnswer (operateAnswer s lent states p o v) .refusal ≡ pos 16
+  pub two-sixteen : Decided (countAnswer (operateAnswer s lent q p o v)) → v ≡ negsuc 0 → TwoApply s states (num o)
+      → countAnswer (operateAnswer s lent q p o v) .refusal ≡ pos 16
   two-sixteen (inr (inr e)) x t = e
   two-sixteen (inr (inl e)) x t = absurd (true-false (t .other-applies) (eleven e .none x (t .other) (t .exists)))
   two-sixteen (inl e) x t =
-      let k = value (operateAnswer s lent states p o v) e in
+      let k = value (operateAnswer s lent q p o v) e in
       absurd (two-alone t (k .0) (operated (k .0) (k .1) .alone x))
 
 -- ---- S2

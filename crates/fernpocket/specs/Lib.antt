@@ -1,2 +1,3 @@
 pub mod Before
+pub mod OneEach
 pub mod Promised

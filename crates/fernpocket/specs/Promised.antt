@@ -2,12 +2,14 @@
 -- a definition that the contract of an export cites, and a lent buffer is the definition that the contract gives for it.
 -- Assumes nothing.
 use mathlib.Core.Path.{_≡_}
-use mathlib.Core.Bool.{Bool, true, false}
+use mathlib.Core.Bool.{Bool, true, false, _&&_}
 use mathlib.Core.List.{List, [], _∷_}
 use mathlib.Core.Logic.{_⊎_}
-use Prim.Native.Nat.{ℕ, zero, suc, _+_, _≤_, _<_}
+use Prim.Native.Nat.{ℕ, zero, suc, _+_, _*_, _≤_, _<_}
 use lib.IntN.{ℤ, pos, negsuc, natAbs}
 use lib.ListN.{length, take, getD}
+use lib.Dec.{eqb}
+use Rattle.tables.specs.Scan.{anyBelow}
 use Rattle.signed.specs.Words.{num, eqZ}
 use Rattle.answer.specs.declared.Answer.{Answer}
 use Rattle.answer.specs.Number.{doneAnswer}
@@ -25,9 +27,12 @@ use Rattle.facts.specs.Assembled.{assembled}
 use Rattle.predicate.specs.Values.{childSort, valueOf, truth}
 use Rattle.predicate.specs.Verdicts.{whenNode, verdictsOf}
 use Rattle.operation.specs.Mask.{allowed}
-use Rattle.operation.specs.Outcomes.{ofOutcome, moves, applicable}
+use Rattle.operation.specs.Outcomes.{ofOperation, ofOutcome, moves, applicable}
+use Rattle.instances.specs.Records.{LentStates, count, entityAt, stateAt}
+use Rattle.instances.specs.Named.{names, gathered}
 use Rattle.attempt.specs.Attempts.{precondition}
-use Rattle.walks.specs.Paths.{stepsOf, PathOf, terminal, paths, Among}
+use Rattle.run.specs.Runs.{performs, operationAt}
+use Rattle.walks.specs.Paths.{firstStepOf, stepsOf, PathOf, terminal, paths, Among}
 use Rattle.walks.specs.Follows.{laid}
 use Rattle.listing.specs.Lists.{Next, State}
 use Rattle.ladder.specs.Ladder.{exists}
@@ -67,13 +72,48 @@ readTo13 s f (suc k) t =
 
 -- a run took the routes of one of the flow's listed paths, which stands in the buffer with 0 past it; the value answered is its terminal, and
 -- the count its length
-pub record RanPath (s : List ℤ) (lent : LentFacts) (states : List ℤ) (f : ℤ) (words : List ℤ) (b : List ℕ) : Type 0 where
+pub record RanPath (s : List ℤ) (lent : LentFacts) (states : LentStates) (f : ℤ) (words : List ℤ) (b : List ℕ) : Type 0 where
   pub path : List ℕ
   pub is : PathOf s (headerOf s) (num f) path
   pub listed : Among (paths s (headerOf s) (num f)) path
   pub left : runPath s lent states f words b ≡ laid path b
   pub value : countedAnswer (runAnswer s lent states f words b) .value ≡ pos (terminal s (headerOf s) path)
   pub long : countedAnswer (runAnswer s lent states f words b) .count ≡ pos (length path)
+
+-- ---- 02, CR 7: instances
+
+-- the present states, one for each entity: those of the named instances
+abbrev pub presentStates : List ℤ → LentStates → List ℤ
+presentStates s states = gathered (headerOf s) states
+
+-- record i has the instance that is named for its entity
+abbrev pub isNamed : LentStates → ℕ → Bool
+isNamed states i = names states (entityAt (states .records) i) i
+
+-- "every instance not named keeps its state", and no record is added, removed or moved: `after` are the records afterwards
+pub record OnlyNamed (states : LentStates) (after : List ℤ) : Type 0 where
+  pub long : length after ≡ length (states .records)
+  pub entities : (i : ℕ) → getD after (3 * i) (pos 0) ≡ getD (states .records) (3 * i) (pos 0)
+  pub instances : (i : ℕ) → getD after (3 * i + 1) (pos 0) ≡ getD (states .records) (3 * i + 1) (pos 0)
+  pub others : (i : ℕ) → isNamed states i ≡ false → stateAt after i ≡ stateAt (states .records) i
+
+-- an effect of operation o names entity n
+unfoldable pub touches : List ℤ → Header → ℕ → ℕ → Bool
+touches s h o n = anyBelow (λ e. ofOperation s h o e && eqb (entityOf (effect s h e)) n) (h .effects)
+
+-- the operation of step i does; a branch has none
+unfoldable pub stepTouches : List ℤ → Header → ℕ → ℕ → Bool
+stepTouches s h i n = performs s h i && touches s h (operationAt s h i) n
+
+-- an operation of the flow's steps does
+unfoldable pub flowTouches : List ℤ → Header → ℕ → ℕ → Bool
+flowTouches s h f n = anyBelow (λ k. stepTouches s h (firstStepOf s h f + k) n) (stepsOf s h f)
+
+-- two calls are lent the same records, and name the same instance of each entity that is touched
+pub record SameRead (touched : ℕ → Bool) (a b : LentStates) : Type 0 where
+  pub records : a .records ≡ b .records
+  pub long : length (a .instances) ≡ length (b .instances)
+  pub each : (n : ℕ) → touched n ≡ true → getD (a .instances) n (pos 0) ≡ getD (b .instances) n (pos 0)
 
 -- ---- operations
 
@@ -99,18 +139,20 @@ pub record OneApplies (s states : List ℤ) (o j : ℕ) : Type 0 where
   pub alone : (i : ℕ) → i < outcomes s (headerOf s) o → applicable s (headerOf s) states o i ≡ true → i ≡ j
 
 -- an operation went through with outcome j: the mask has the persona, the precondition is true, j is applicable; it is the wanted outcome,
--- or with −1 the only one that is applicable; and exactly its effects that start from the present states are applied
-pub record Operated (s : List ℤ) (lent : LentFacts) (states : List ℤ) (p o w : ℤ) (j : ℕ) : Type 0 where
+-- or with −1 the only one that is applicable; and exactly its effects that start from the present states, those of the named instances, are
+-- applied to these
+pub record Operated (s : List ℤ) (lent : LentFacts) (states : LentStates) (p o w : ℤ) (j : ℕ) : Type 0 where
   pub persona : allowed s (headerOf s) (num o) (num p) ≡ true
   pub holds :
       truth s (headerOf s) (assembled s (headerOf s) lent) (verdictsOf s (headerOf s) (assembled s (headerOf s) lent))
       (precondition s (headerOf s) (num o)) ≡ true
   pub exists : j < outcomes s (headerOf s) (num o)
-  pub applies : applicable s (headerOf s) states (num o) j ≡ true
+  pub applies : applicable s (headerOf s) (presentStates s states) (num o) j ≡ true
   pub wanted : (w ≡ negsuc 0 → ⊥) → w ≡ pos j
-  pub alone : w ≡ negsuc 0 → (i : ℕ) → i < outcomes s (headerOf s) (num o) → applicable s (headerOf s) states (num o) i ≡ true → i ≡ j
-  pub each : (n : ℕ) → n < headerOf s .entities
-      → After s (headerOf s) states (num o) j n (getD (operateStates s lent states p o w) n (pos 0))
+  pub alone : w ≡ negsuc 0 → (i : ℕ) → i < outcomes s (headerOf s) (num o) → applicable s (headerOf s) (presentStates s states) (num o) i ≡ true
+      → i ≡ j
+  pub each : (i : ℕ) → i < count (states .records) → isNamed states i ≡ true
+      → After s (headerOf s) (presentStates s states) (num o) j (entityAt (states .records) i) (stateAt (operateStates s lent states p o w) i)
 
 -- 02, CR 2: entity n is the first that blocks outcome j of operation o: an effect of j names it and no effect of j starts from its state; but
 -- for each effect of j before that one, some effect of j starts from the state of the entity that it names

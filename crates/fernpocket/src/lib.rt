@@ -4,6 +4,7 @@ ghost use lib.ListN.{length};
 ghost use Rattle.answer.specs.Answers.{statusAnswer, countAnswer, countedAnswer};
 ghost use Rattle.records.specs.Accept.{checked};
 ghost use Rattle.facts.specs.Lent.{lent};
+ghost use Rattle.instances.specs.Records.{lentStates};
 ghost use Rattle.calls.specs.Evaluation.{assembleAnswer, assembleValues, verdictsAnswer, verdictsVerdicts, operateAnswer, operateStates};
 ghost use Rattle.calls.specs.Flows.{firstAnswer, firstPath, nextAnswer, nextPath, runAnswer, runPath, runStates};
 ghost use Rattle.calls.specs.Reports.{statesAnswer, reachableAnswer, admissibleAnswer, canCauseAnswer, rulesAnswer, stratumAnswer, outcomesAnswer, treeSizeAnswer, depthAnswer};
@@ -72,8 +73,8 @@ pub extern "C" fn fernpocket_verdicts(
     of_status(evaluate::verdicts(sheet, values, given, lists, lengths, verdicts))
 }
 
-// One operation by a persona, who wants the outcome of that number, or with −1 the only one that is applicable. The number answered is the
-// outcome.
+// One operation by a persona on the named instances, who wants the outcome of that number, or with −1 the only one that is applicable. The number
+// answered is the outcome.
 #[no_mangle]
 pub extern "C" fn fernpocket_operate(
     sheet: &[i64],
@@ -82,12 +83,13 @@ pub extern "C" fn fernpocket_operate(
     lists: &[i64],
     lengths: &[i64],
     states: &mut [i64],
+    instances: &[i64],
     persona: i64,
     operation: i64,
     wanted: i64,
 ) -> Answer
-    ensures { λ a. ⌜ a ≡ countAnswer (operateAnswer (now (sheet .entry)) (lent (now (values .entry)) (now (given .entry)) (now (lists .entry)) (now (lengths .entry))) (now (states .entry)) persona operation wanted) ⌝ }
-    ensures { λ _. ⌜ now (states .exit) ≡ operateStates (now (sheet .entry)) (lent (now (values .entry)) (now (given .entry)) (now (lists .entry)) (now (lengths .entry))) (now (states .entry)) persona operation wanted ⌝ }
+    ensures { λ a. ⌜ a ≡ countAnswer (operateAnswer (now (sheet .entry)) (lent (now (values .entry)) (now (given .entry)) (now (lists .entry)) (now (lengths .entry))) (lentStates (now (states .entry)) (now (instances .entry))) persona operation wanted) ⌝ }
+    ensures { λ _. ⌜ now (states .exit) ≡ operateStates (now (sheet .entry)) (lent (now (values .entry)) (now (given .entry)) (now (lists .entry)) (now (lengths .entry))) (lentStates (now (states .entry)) (now (instances .entry))) persona operation wanted ⌝ }
 {
     of_count(evaluate::operate(
         sheet,
@@ -96,13 +98,15 @@ pub extern "C" fn fernpocket_operate(
         lists,
         lengths,
         states,
+        instances,
         persona,
         operation,
         wanted,
     ))
 }
 
-// One run of a flow, with a wanted word for each of its steps. The numbers answered are the terminal and the path's length.
+// One run of a flow on the named instances, with a wanted word for each of its steps. The numbers answered are the terminal and the path's
+// length.
 #[no_mangle]
 pub extern "C" fn fernpocket_run(
     sheet: &[i64],
@@ -111,13 +115,14 @@ pub extern "C" fn fernpocket_run(
     lists: &[i64],
     lengths: &[i64],
     states: &mut [i64],
+    instances: &[i64],
     flow: i64,
     wanted: &[i64],
     path: &mut [u16],
 ) -> Answer
-    ensures { λ a. ⌜ a ≡ countedAnswer (runAnswer (now (sheet .entry)) (lent (now (values .entry)) (now (given .entry)) (now (lists .entry)) (now (lengths .entry))) (now (states .entry)) flow (now (wanted .entry)) (now (path .entry))) ⌝ }
-    ensures { λ _. ⌜ now (path .exit) ≡ runPath (now (sheet .entry)) (lent (now (values .entry)) (now (given .entry)) (now (lists .entry)) (now (lengths .entry))) (now (states .entry)) flow (now (wanted .entry)) (now (path .entry)) ⌝ }
-    ensures { λ _. ⌜ now (states .exit) ≡ runStates (now (sheet .entry)) (lent (now (values .entry)) (now (given .entry)) (now (lists .entry)) (now (lengths .entry))) (now (states .entry)) flow (now (wanted .entry)) (now (path .entry)) ⌝ }
+    ensures { λ a. ⌜ a ≡ countedAnswer (runAnswer (now (sheet .entry)) (lent (now (values .entry)) (now (given .entry)) (now (lists .entry)) (now (lengths .entry))) (lentStates (now (states .entry)) (now (instances .entry))) flow (now (wanted .entry)) (now (path .entry))) ⌝ }
+    ensures { λ _. ⌜ now (path .exit) ≡ runPath (now (sheet .entry)) (lent (now (values .entry)) (now (given .entry)) (now (lists .entry)) (now (lengths .entry))) (lentStates (now (states .entry)) (now (instances .entry))) flow (now (wanted .entry)) (now (path .entry)) ⌝ }
+    ensures { λ _. ⌜ now (states .exit) ≡ runStates (now (sheet .entry)) (lent (now (values .entry)) (now (given .entry)) (now (lists .entry)) (now (lengths .entry))) (lentStates (now (states .entry)) (now (instances .entry))) flow (now (wanted .entry)) (now (path .entry)) ⌝ }
 {
     of_counted(flows::run(
         sheet,
@@ -126,6 +131,7 @@ pub extern "C" fn fernpocket_run(
         lists,
         lengths,
         states,
+        instances,
         flow,
         wanted,
         path,

@@ -15,6 +15,8 @@ use Rattle.answer.specs.declared.Counted.the-variants.{Is as Walked, Refused as
 use Rattle.answer.specs.declared.Status.the-variants.{Done}
 use Rattle.layout.specs.declared.Header.{Header}
 use Rattle.facts.specs.Lent.{LentFacts}
+use Rattle.instances.specs.Records.{LentStates}
+use Rattle.instances.specs.Named.{gathered}
 use Rattle.facts.specs.Assembled.{assembled}
 use Rattle.predicate.specs.Verdicts.{verdictsOf}
 use Rattle.walks.specs.Paths.{stepsOf, paths}
@@ -121,7 +123,7 @@ module _ {s : List ℤ} {h : Header} {f : ℤ} {b : List ℕ} (u : Listable s h 
 -- ---- runs
 
 -- any run that is not refused, whatever its facts and states and whatever its steps want, takes one of the listed paths
-pub run-takes-path : (s : List ℤ) (t : LentFacts) (states : List ℤ) (f : ℤ) (words : List ℤ) (b : List ℕ) (end n : ℕ)
+pub run-takes-path : (s : List ℤ) (t : LentFacts) (states : LentStates) (f : ℤ) (words : List ℤ) (b : List ℕ) (end n : ℕ)
     → runAnswer s t states f words b ≡ Walked end n → TookPath s t states f words b
 unfolding ranPath
 run-takes-path s t states f words b end n =
@@ -137,7 +139,7 @@ run-takes-path s t states f words b end n =
         record {
           header = h;
           sheet = w .sheet;
-          path = ran s h facts (verdictsOf s h facts) states (num f) (wantedAt s h (num f) words) .path;
+          path = ran s h facts (verdictsOf s h facts) (gathered h states) (num f) (wantedAt s h (num f) words) .path;
           listed = r .listed;
           left = climbs (runRungs s t states f words (length b)) _ _ (w .sheet) (w .clear);
           answers = climbs (runRungs s t states f words (length b)) _ _ (w .sheet) (w .clear) ∙ r .answers;

@@ -73,6 +73,11 @@ pub all-passed : {l n : Bool} {f t : Status} → Passed l n f t → rungs l n f 
 unfolding then unless
 all-passed p = rw (p .lengths, p .numbers, p .facts, p .states, then, unless)
 
+-- where a length is wrong, nothing else is judged
+pub no-length : {l : Bool} (n : Bool) (f t : Status) → l ≡ false → rungs l n f t ≡ Refused Length
+unfolding then unless
+no-length n f t p = rw (p, then, unless)
+
 pub no-number : {n : Bool} (f t : Status) → n ≡ false → rungs true n f t ≡ Refused Missing
 unfolding then unless
 no-number f t p = rw (p, then, unless)
@@ -104,6 +109,9 @@ pub reached-at : (t : Status) {h g : Header} → reached t h ≡ At g → (t ≡
 unfolding reached
 reached-at Done e = (refl, cc)
 reached-at (Refused r) e = let z : _≡_ {A = ℕ} 0 1 = cc in absurd (omega arith)
+
+pub stopped-at : {r : Refusal} {h : Header} → Stopped r ≡ At h → ⊥
+stopped-at e = let z : _≡_ {A = ℕ} 0 1 = cc in omega arith
 
 -- a call's answer, or a buffer that it leaves: x is where its climb stopped
 module _ {A : Type 0} {c x : Climbed} (f : Refusal → A) (g : Header → A) (e : x ≡ c) where
@@ -154,6 +162,17 @@ module _ {A : Type 0} {o : Climbed} {h : Header} (rest : Header → Status) (f :
   pub refuses : {r : Refusal} → rest h ≡ Refused r → by (climb o rest) f g ≡ f r
   refuses d = sym (stopped f g (climb-goes rest refl p (reached-stop _ refl) (sym d)) refl)
 
+-- rungs that agree on an opened sheet, and work that agrees past them
+pub climb-same : (o : Climbed) (f g : Header → Status) → ((h : Header) → o ≡ At h → f h ≡ g h) → climb o f ≡ climb o g
+unfolding climb by
+climb-same (At h) f g e = ap (λ (t : Status). reached t h) (e h refl)
+climb-same (Stopped r) f g e = refl
+
+pub by-same : {A : Type 0} (c : Climbed) (f : Refusal → A) (g k : Header → A) → ((h : Header) → c ≡ At h → g h ≡ k h) → by c f g ≡ by c f k
+unfolding by
+by-same (At h) f g k e = e h refl
+by-same (Stopped r) f g k e = refl
+
 -- ---- a call whose buffers are sized by the header: it opens the sheet, and judges the rungs by a status of its own
 
 module _ {A : Type 0} {t u : Status} (f : Refusal → A) (a : A) (e : u ≡ t) where
@@ -190,6 +209,10 @@ unfolding opened
 opened-at s e p =
     let w = reached-at (checked s) (sym e ∙ p) in
     record { done = w .0; header = w .1; sheet = subst (Accepted s) (w .1) (accepted s (w .0)) }
+
+-- so is the sheet of a climb past every rung
+pub climbed-sheet : (s : List ℤ) (rest : Header → Status) {h : Header} {x : Climbed} → x ≡ climb (opened s) rest → x ≡ At h → Accepted s h
+climbed-sheet s rest e p = opened-at s refl (climbed-at (opened s) rest e p .sheet) .sheet
 
 pub opened-done : (s : List ℤ) → checked s ≡ Done → At (headerOf s) ≡ opened s
 unfolding opened

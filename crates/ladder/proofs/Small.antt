@@ -25,7 +25,7 @@ use Rattle.records.proofs.Acceptance.{bad-header, bad-group, bad-record, no-fau
 use Rattle.ladder.specs.declared.Climbed.{Climbed}
 use Rattle.ladder.specs.declared.Climbed.the-variants.{At, Stopped}
 use Rattle.ladder.specs.Ladder.{then, unless, rungs, reached, opened, by, climb}
-use Rattle.ladder.proofs.ClimbLaws.{by-all}
+use Rattle.ladder.proofs.ClimbLaws.{then-done, called, by-all}
 
 -- ---- the sheet: the largest has fewer records than 100,000
 
@@ -65,9 +65,9 @@ opened-low s {r} e = go (checked s) (checked-early s) e
 -- ---- the rungs
 
 module _ (P : Refusal → Type 0) where
-  then-every : (t u : Status) → Every P t → Every P u → Every P (then t u)
+  then-every : (t u : Status) → Every P t → (t ≡ Done → Every P u) → Every P (then t u)
   unfolding then
-  then-every Done u p q = q
+  then-every Done u p q = q refl
   then-every (Refused r) u p q = p
 
   unless-every : (b : Bool) (r : Refusal) → P r → Every P (unless b r)
@@ -75,8 +75,11 @@ module _ (P : Refusal → Type 0) where
   unless-every true r p = tt
   unless-every false r p = p
 
-  pub rungs-every : (l n : Bool) (f t : Status) → P Length → P Missing → Every P f → Every P t → Every P (rungs l n f t)
-  rungs-every l n f t x y p q = then-every _ _ (then-every _ _ (then-every _ _ (unless-every l _ x) (unless-every n _ y)) p) q
+  -- the last rung is judged only where the lengths are right
+  pub rungs-every : (l n : Bool) (f t : Status) → P Length → P Missing → Every P f → (l ≡ true → Every P t) → Every P (rungs l n f t)
+  rungs-every l n f t x y p q =
+      then-every _ _ (then-every _ _ (then-every _ _ (unless-every l _ x) (λ _. unless-every n _ y)) (λ _. p))
+      (λ d. q (called refl (then-done _ _ d .0) .0))
 
   -- ---- a climb
 
@@ -102,7 +105,7 @@ module _ (P : Refusal → Type 0) where
       go (At h) p k = reached-every (rest h) h (k h refl)
       go (Stopped r) p k = p
 
-pub rungs-small : (l n : Bool) (f t : Status) → SmallStatus f → SmallStatus t → SmallStatus (rungs l n f t)
+pub rungs-small : (l n : Bool) (f t : Status) → SmallStatus f → (l ≡ true → SmallStatus t) → SmallStatus (rungs l n f t)
 rungs-small l n f t p q = rungs-every (λ r. place r < 2 ^ 63) l n f t (lit< tt) (lit< tt) p q
 
 -- what a call answers is as small as what it answers past the rungs

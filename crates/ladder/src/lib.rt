@@ -1,22 +1,19 @@
 // The ladder of refusals 1 to 8, one function for each rung: every public call that takes a sheet climbs it in this order.
 ghost use mathlib.Core.Path.{_≡_};
 ghost use mathlib.Core.Bool.{true};
-ghost use lib.ListN.{length};
-ghost use Rattle.layout.specs.Header.{headerOf};
-ghost use Rattle.records.specs.Accept.{checked};
 ghost use Rattle.records.specs.Accepted.{Accepted};
 ghost use Rattle.answer.specs.declared.Status.the-variants.{Done};
 ghost use Rattle.answer.specs.declared.Refusal.the-variants.{Length, Missing};
 ghost use Rattle.facts.specs.Lent.{lent};
 ghost use Rattle.facts.specs.Faults.{factsFault};
-ghost use Rattle.operation.specs.States.{statesFault};
+ghost use Rattle.instances.specs.Records.{recordsFault};
 ghost use Rattle.ladder.specs.Ladder.{then, unless, reached, opened, exists, factsLent};
 use answer::Refusal;
 use answer::Status;
 use facts::judge_facts;
 use facts::used_by_all;
+use instances::judge_records;
 use layout::Header;
-use operation::judge_states;
 use sheet::check;
 use signed::num;
 
@@ -117,13 +114,12 @@ pub fn then_facts(
 }
 
 // Refusal 8, after the rungs so far.
-pub fn then_states(t: Status, s: &[i64], h: Header, states: &[i64]) -> Status
+pub fn then_records(t: Status, s: &[i64], h: Header, rs: &[i64]) -> Status
     requires { ⌜ Accepted (now s) h ⌝ }
-    requires { ⌜ (t ≡ Done → length (now states) ≡ h .entities) ⌝ }
-    ensures { λ x. ⌜ x ≡ then t (statesFault (now (s .entry)) h (now (states .entry))) ⌝ }
+    ensures { λ x. ⌜ x ≡ then t (recordsFault (now (s .entry)) h (now (rs .entry))) ⌝ }
 {
     match t {
         Status::Refused(r) => Status::Refused(r),
-        Status::Done => judge_states(s, h, states),
+        Status::Done => judge_records(s, h, rs),
     }
 }

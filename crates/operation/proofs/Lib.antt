@@ -1,4 +1,3 @@
-pub mod LentStates
 pub mod Targets
 pub mod Blockers
 pub mod Blocks
@@ -7,3 +6,4 @@ pub mod OutcomeLoop
 pub mod Movers
 pub mod Moving
 pub mod Guarantees
+pub mod Untouched

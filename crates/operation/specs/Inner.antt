@@ -16,7 +16,7 @@ use Rattle.records.specs.Operations.{effectsEnd, outcome}
 use Rattle.operation.specs.declared.Effects.{Effects}
 use Rattle.operation.specs.declared.Wanted.{Wanted}
 use Rattle.operation.specs.declared.Wanted.the-variants.{Any, One}
-use Rattle.operation.specs.Outcomes.{ofOutcome, starts, matched, another, chosen}
+use Rattle.operation.specs.Outcomes.{ofOperation, ofOutcome, starts, matched, another, chosen}
 use Rattle.operation.specs.declared.Choice.{Choice}
 use Rattle.operation.specs.declared.Choice.the-variants.{Outcome, Nothing, Several}
 use Rattle.operation.specs.Changes.{applied}
@@ -105,3 +105,12 @@ candidate applies w j = asks w j && applies j
 pub record StatesIn (s : List ℤ) (h : Header) (states : List ℤ) : Type 0 where
   pub long : length states ≡ h .entities
   pub each : (n : ℕ) → n < h .entities → present states n < stateCount s h n
+
+-- two lists of states have the same state of each entity that an effect of operation o names
+abbrev pub Agree : List ℤ → Header → ℕ → List ℤ → List ℤ → Type 0
+Agree s h o a b =
+    (e : ℕ) → ofOperation s h o e ≡ true → getD a (entityOf (effect s h e)) (pos 0) ≡ getD b (entityOf (effect s h e)) (pos 0)
+
+-- no effect of operation o names entity n
+abbrev pub Untouched : List ℤ → Header → ℕ → ℕ → Type 0
+Untouched s h o n = (e : ℕ) → ofOperation s h o e ≡ true → entityOf (effect s h e) ≡ n → ⊥

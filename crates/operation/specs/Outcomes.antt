@@ -17,6 +17,10 @@ use Rattle.operation.specs.declared.Wanted.{Wanted}
 use Rattle.operation.specs.declared.Wanted.the-variants.{Any, One}
 use Rattle.operation.specs.States.{present}
 
+-- effect e is one of operation o, of whichever outcome
+unfoldable pub ofOperation : List ℤ → Header → ℕ → ℕ → Bool
+ofOperation s h o e = leb (effectStartOf (operation s h o)) e && ltb e (effectsEnd s h o)
+
 -- effect e is one of outcome j of operation o
 unfoldable pub ofOutcome : List ℤ → Header → ℕ → ℕ → ℕ → Bool
 ofOutcome s h o j e = leb (effectStartOf (operation s h o)) e && ltb e (effectsEnd s h o) && eqb (outcome s h e) j

@@ -1,4 +1,4 @@
-// One operation on the lent states, below the ladder of refusals: refusals 8, 9 and 11, and the states afterwards.
+// One operation on one state for each entity, below the ladder of refusals: refusals 9 and 11, and the states afterwards.
 ghost use mathlib.Core.Path.{_≡_};
 ghost use Prim.Native.Nat.{_+_, _<_};
 ghost use lib.ListN.{length};
@@ -8,7 +8,6 @@ ghost use Rattle.layout.specs.Sized.{Sized};
 ghost use Rattle.layout.specs.Tables.{effect};
 ghost use Rattle.records.specs.Accepted.{Accepted};
 ghost use Rattle.operation.specs.Mask.{inMask, allowed};
-ghost use Rattle.operation.specs.States.{statesFault};
 ghost use Rattle.operation.specs.Outcomes.{starts, wantedOf, goodWanted, another, chosen};
 ghost use Rattle.operation.specs.Changes.{applied};
 ghost use Rattle.operation.specs.Inner.{asks, about, counted, placed, noted, performed, effectsOf, Read, OutcomeAt, Clear, Collected, Shifted};
@@ -73,25 +72,6 @@ pub fn allows(s: &[i64], h: Header, o: Operation, p: Persona) -> bool
     in_mask(operation_word(s, h, o, place::OPERATION_MASK), bit)
 }
 
-// Refusal 8, or Done.
-pub fn judge_states(s: &[i64], h: Header, states: &[i64]) -> Status
-    requires { ⌜ Sized (now s) h ⌝ }
-    requires { ⌜ length (now states) ≡ h .entities ⌝ }
-    ensures { λ r. ⌜ r ≡ statesFault (now (s .entry)) h (now (states .entry)) ⌝ }
-{
-    let base = h.facts + h.nodes + h.rules;
-    let mut n = 0;
-    while n < h.entities {
-        let count = number(s, base + n, place::ENTITY_STATES);
-        let state = number_at(states, n);
-        if count <= state {
-            return Status::Refused(Refusal::State(n));
-        }
-        n += 1;
-    }
-    Status::Done
-}
-
 pub fn effects_of(s: &[i64], h: Header, o: Operation) -> Effects
     requires { ⌜ Accepted (now s) h ⌝ }
     requires { ⌜ o .0 < h .operations ⌝ }
@@ -106,7 +86,7 @@ pub fn effects_of(s: &[i64], h: Header, o: Operation) -> Effects
 }
 
 // Word j of effect e's record.
-fn effect_word(s: &[i64], h: Header, e: usize, j: usize) -> usize
+pub fn effect_word(s: &[i64], h: Header, e: usize, j: usize) -> usize
     requires { ⌜ Sized (now s) h ⌝ }
     requires { ⌜ (e < h .effects) × (j < 8) ⌝ }
     ensures { λ r. ⌜ r ≡ number (now (s .entry)) (firstEffect h + e) j ⌝ }

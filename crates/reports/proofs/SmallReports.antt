@@ -28,7 +28,7 @@ use Rattle.depth.proofs.Depths.{depth-short}
 use Rattle.reach.specs.Reached.{reachable, scans}
 use Rattle.reach.proofs.Rounds.{mask-small, scans-few}
 use Rattle.causes.specs.Causes.{admissible, canCause}
-use Rattle.ladder.specs.Ladder.{opened, exists}
+use Rattle.ladder.specs.Ladder.{exists}
 use Rattle.ladder.proofs.ClimbLaws.{opened-at}
 use Rattle.ladder.proofs.Small.{opened-small, rungs-small, call-small}
 use Rattle.records.specs.Operations.{outcomes}
@@ -41,7 +41,7 @@ small : (s : List ℤ) (numbers : Header → Bool) (answer : Header → ℕ) →
     → SmallCount (reported s numbers answer)
 unfolding reportRungs
 small s numbers answer k =
-    call-small SmallCount NoCount (λ h. Is (answer h)) (λ r p. p) s (reportRungs numbers) (λ h e. rungs-small _ _ _ _ tt tt)
+    call-small SmallCount NoCount (λ h. Is (answer h)) (λ r p. p) s (reportRungs numbers) (λ h e. rungs-small _ _ _ _ tt (λ _. tt))
     (λ h e. let a = asked s numbers refl e in k h (a .sheet) (a .exist))
 
 -- of one number
@@ -66,7 +66,7 @@ pub reachable-small : (s : List ℤ) (e : ℤ) → SmallCounted (reachableAnswer
 unfolding reportRungs
 reachable-small s e =
     call-small SmallCounted NotCounted (λ h. IsCounted (reachable s h (num e)) (scans s h (num e))) (λ r p. p) s
-    (reportRungs (λ h. exists e (h .entities))) (λ h e. rungs-small _ _ _ _ tt tt)
+    (reportRungs (λ h. exists e (h .entities))) (λ h e. rungs-small _ _ _ _ tt (λ _. tt))
     (λ h p. (omega (arith, mask-small s h (num e)), omega (arith, scans-few s h (num e))))
 
 pub admissible-small : (s : List ℤ) (e q p o : ℤ) → SmallCount (admissibleAnswer s e q p o)

@@ -16,18 +16,22 @@ use Rattle.predicate.specs.Values.{truth}
 use Rattle.attempt.specs.Attempts.{precondition}
 use Rattle.run.specs.Memo.{Memo}
 
+-- of 128 flags, none of them set, each reads false
+pub none-set : (o : ℕ) → getD (replicate 128 false) o false ≡ false
+none-set o = go (decLt o 128)
+  where
+    go : Dec (o < 128) → getD (replicate 128 false) o false ≡ false
+    go (yes l) = getD-replicate 128 o false false l
+    go (no l) = List·getD-eq-default (replicate 128 false) false {n = o} (omega (arith, length-replicate 128 false))
+
 pub memo-none : (s : List ℤ) (h : Header) (facts : List FactValue) (verdicts : List ℤ)
     → Memo s h facts verdicts (replicate 128 false) (replicate 128 false)
 memo-none s h facts verdicts =
     record {
       known-long = length-replicate 128 false;
       holds-long = length-replicate 128 false;
-      right = λ o e. absurd (true-false e (go o (decLt o 128)));
+      right = λ o e. absurd (true-false e (none-set o));
     }
-  where
-    go : (o : ℕ) → Dec (o < 128) → getD (replicate 128 false) o false ≡ false
-    go o (yes l) = getD-replicate 128 o false false l
-    go o (no l) = List·getD-eq-default (replicate 128 false) false {n = o} (omega (arith, length-replicate 128 false))
 
 -- operation o's precondition is worked out
 pub memo-more : {s : List ℤ} {h : Header} {facts : List FactValue} {verdicts : List ℤ} {known holds : List Bool} → Memo s h facts verdicts known holds

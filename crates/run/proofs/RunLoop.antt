@@ -161,7 +161,10 @@ module _ {s : List ℤ} {h : Header} {facts : List FactValue} {verdicts states�
         is-route = k ∙ ap (routeTaken s h facts verdicts states (w .step)) is-wanted
 
         pub run-route : r < h .routes
-        run-route = rw is-route (omega (arith, route-of run-step run-valid (wants (w .step)) .high, routes-end run-step))
+        run-route =
+            let a = u .lent .sheet in
+            let l = run-step .exists in
+            rw is-route (omega (arith, route-of a (w .step) l facts verdicts states (wants (w .step)) .high, routes-end a (w .step) l))
 
         module _ {states′ : List ℤ} {w′ : Walker} (m : states′ ≡ statesThen s h facts verdicts states (w .step) x) (q : w′ ≡ taken s h w r) where
           pub run-more : Ongoing s h facts verdicts states₀ (flowOf s h (w₀ .step)) words b states′ (set path (w .length) r) w′

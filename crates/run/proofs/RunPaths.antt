@@ -69,7 +69,7 @@ module _ {s : List ℤ} {h : Header} {facts : List FactValue} {verdicts states :
         record {
           trail =
               went (k .trail) e (routeTaken s h facts verdicts (t .states) (t .walker .step) (wants (t .walker .step)))
-              (route-of held-step (k .valid) (wants (t .walker .step)));
+              (route-of (u .lent .sheet) (t .walker .step) (held-step .exists) facts verdicts (t .states) (wants (t .walker .step)));
           valid = states-then-in held-step (k .valid) (wants (t .walker .step));
         }
 

@@ -15,6 +15,7 @@ use Rattle.answer.specs.declared.Count.the-variants.{Is, Refused}
 use Rattle.layout.specs.declared.Header.{Header}
 use Rattle.layout.specs.Tables.{operation, step}
 use Rattle.node.specs.FactValues.{FactValue}
+use Rattle.records.specs.Accepted.{Accepted}
 use Rattle.records.specs.Nodes.{itemOf}
 use Rattle.records.specs.Names.{closed}
 use Rattle.records.proofs.FlowLaws.{StepKind, performs as is-operation, branches as is-branch, step-is}
@@ -63,26 +64,9 @@ module _ (s : List ℤ) (h : Header) (facts : List FactValue) (verdicts states :
 
 -- ---- on an accepted sheet
 
-module _ {s : List ℤ} {h : Header} {facts : List FactValue} {verdicts : List ℤ} {i : ℕ} (w : Steppable s h facts verdicts i) where
+module _ {s : List ℤ} {h : Header} (a : Accepted s h) (i : ℕ) (l : i < h .steps) where
   kind : StepKind s h (step s h i)
-  kind = step-is s h (w .accepted) i (w .exists)
-
-  -- a branch's node can be worked out
-  pub evaluable : performs s h i ≡ false → (n : ℕ) → n ≡ nodeAt s h i → Evaluable s h facts verdicts n
-  evaluable e n q =
-      let b = go kind in
-      record {
-        accepted = w .accepted;
-        known = w .known;
-        judged = w .judged;
-        exists = rw q (b .0);
-        bool = rw q (b .1);
-        closed = rw q (b .2);
-      }
-    where
-      go : StepKind s h (step s h i) → (nodeAt s h i < h .nodes) × (itemOf s h (nodeAt s h i) .sort ≡ 0) × (closed s h (nodeAt s h i) ≡ true)
-      go (is-operation z o p c) = absurd (true-false (eq-eqb (step s h i .w0) 0 z) e)
-      go (is-branch z o t l c) = (o, t, l)
+  kind = step-is s h a i l
 
   pub branch-two : performs s h i ≡ false → routesOf s h i ≡ 2
   unfolding routesOf
@@ -94,9 +78,9 @@ module _ {s : List ℤ} {h : Header} {facts : List FactValue} {verdicts : List �
 
   -- the routes lie in the table
   pub routes-end : firstRouteOf s h i + routesOf s h i ≤ h .routes
-  routes-end = step-ends s h (w .accepted) i (w .exists)
+  routes-end = step-ends s h a i l
 
-  pub branch-of : performs s h i ≡ false → (b : Bool) → RouteOf s h i (branchRoute s h i b)
+  branch-of : performs s h i ≡ false → (b : Bool) → RouteOf s h i (branchRoute s h i b)
   unfolding branchRoute
   branch-of e true = record { low = omega arith; high = omega (arith, branch-two e) }
   branch-of e false = record { low = omega arith; high = omega (arith, branch-two e) }
@@ -110,36 +94,56 @@ module _ {s : List ℤ} {h : Header} {facts : List FactValue} {verdicts : List �
       go (is-operation z o p c) = c
       go (is-branch z o t l c) = let k = eqb-true (step s h i .w0) 0 e in absurd (omega arith)
 
+  module _ (facts : List FactValue) (verdicts states : List ℤ) (d : Wanted) where
+    pub answer-of : performs s h i ≡ true → (r : Count) → attempted s h facts verdicts states (personaAt s h i) (operationAt s h i) d ≡ r
+        → RouteOf s h i (answerRoute s h i r)
+    unfolding answerRoute
+    answer-of e (Is j) q =
+        let k = outcome-below s h facts verdicts states (personaAt s h i) (operationAt s h i) d j q in
+        record { low = omega arith; high = omega (arith, operation-routes e) }
+    answer-of e (Refused r) q = let k = operation-routes e in record { low = omega arith; high = omega arith }
+
+    -- the route taken is one of the step's, whatever the facts and states are
+    pub route-of : RouteOf s h i (routeTaken s h facts verdicts states i d)
+    route-of =
+        ⊎-elim (λ e. rw (operation-route s h facts verdicts states i d e)
+        (answer-of e (attempted s h facts verdicts states (personaAt s h i) (operationAt s h i) d) refl))
+        (λ e. rw (branch-takes s h facts verdicts states i d e) (branch-of e (truth s h facts verdicts (nodeAt s h i))))
+        (bool-cases (performs s h i))
+
+module _ {s : List ℤ} {h : Header} {facts : List FactValue} {verdicts : List ℤ} {i : ℕ} (w : Steppable s h facts verdicts i) where
+  -- a branch's node can be worked out
+  pub evaluable : performs s h i ≡ false → (n : ℕ) → n ≡ nodeAt s h i → Evaluable s h facts verdicts n
+  evaluable e n q =
+      let b = go (kind (w .accepted) i (w .exists)) in
+      record {
+        accepted = w .accepted;
+        known = w .known;
+        judged = w .judged;
+        exists = rw q (b .0);
+        bool = rw q (b .1);
+        closed = rw q (b .2);
+      }
+    where
+      go : StepKind s h (step s h i) → (nodeAt s h i < h .nodes) × (itemOf s h (nodeAt s h i) .sort ≡ 0) × (closed s h (nodeAt s h i) ≡ true)
+      go (is-operation z o p c) = absurd (true-false (eq-eqb (step s h i .w0) 0 z) e)
+      go (is-branch z o t l c) = (o, t, l)
+
   module _ {states : List ℤ} (v : StatesIn s h states) where
     -- an operation step's operation can be attempted
     pub attemptable : performs s h i ≡ true → Attemptable s h facts verdicts states (personaAt s h i) (operationAt s h i)
-    attemptable e = go kind
+    attemptable e = go (kind (w .accepted) i (w .exists))
       where
         go : StepKind s h (step s h i) → Attemptable s h facts verdicts states (personaAt s h i) (operationAt s h i)
         go (is-operation z o p c) =
             record { ready = record { accepted = w .accepted; lent = v; exists = o }; known = w .known; judged = w .judged; persona = p }
         go (is-branch z o t l c) = let k = eqb-true (step s h i .w0) 0 e in absurd (omega arith)
 
-    module _ (d : Wanted) where
-      pub answer-of : performs s h i ≡ true → (r : Count) → attempted s h facts verdicts states (personaAt s h i) (operationAt s h i) d ≡ r
-          → RouteOf s h i (answerRoute s h i r)
-      unfolding answerRoute
-      answer-of e (Is j) q = record { low = omega arith; high = omega (arith, operation-routes e, outcome-below (attemptable e) d j q) }
-      answer-of e (Refused r) q = let k = operation-routes e in record { low = omega arith; high = omega arith }
-
-      -- the route taken is one of the step's
-      pub route-of : RouteOf s h i (routeTaken s h facts verdicts states i d)
-      route-of =
-          ⊎-elim (λ e. rw (operation-route s h facts verdicts states i d e)
-          (answer-of e (attempted s h facts verdicts states (personaAt s h i) (operationAt s h i) d) refl))
-          (λ e. rw (branch-takes s h facts verdicts states i d e) (branch-of e (truth s h facts verdicts (nodeAt s h i))))
-          (bool-cases (performs s h i))
-
-      -- the states afterwards are among their entities' states
-      pub states-then-in : StatesIn s h (statesThen s h facts verdicts states i d)
-      states-then-in =
-          ⊎-elim (λ e. rw (operation-states s h facts verdicts states i d e) (attempted-in (attemptable e) d))
-          (λ e. rw (branch-states s h facts verdicts states i d e) v) (bool-cases (performs s h i))
+    -- the states afterwards are among their entities' states
+    pub states-then-in : (d : Wanted) → StatesIn s h (statesThen s h facts verdicts states i d)
+    states-then-in d =
+        ⊎-elim (λ e. rw (operation-states s h facts verdicts states i d e) (attempted-in (attemptable e) d))
+        (λ e. rw (branch-states s h facts verdicts states i d e) v) (bool-cases (performs s h i))
 
 -- ---- what the code finds
 
@@ -195,7 +199,9 @@ module _ {s : List ℤ} {h : Header} {facts : List FactValue} {verdicts states :
 
     pub outcome-fits : (j : ℕ) → x ≡ Is j → first + j < h .routes
     unfolding answerRoute
-    outcome-fits j z = rw q (omega (arith, answer-of w v d e (Is j) (answered ∙ z) .high, routes-end w))
+    outcome-fits j z =
+        let k = answer-of (w .accepted) i (w .exists) facts verdicts states d e (Is j) (answered ∙ z) in
+        rw q (omega (arith, k .high, routes-end (w .accepted) i (w .exists)))
 
     pub by-outcome : (j : ℕ) → x ≡ Is j
         → (first + j ≡ answerRoute s h i (attempted s h facts verdicts states (personaAt s h i) (operationAt s h i) d))
@@ -214,8 +220,9 @@ pub routes-few : {s : List ℤ} {h : Header} {facts : List FactValue} {verdicts 
     → performs s h i ≡ true → first ≡ firstRouteOf s h i
     → count ≡ routesOf s h i → (first + count ≤ 1024) × (2 ≤ count)
 routes-few {s} {h} {facts} {verdicts} {i} {first} {count} w e q k =
-    (omega (arith, q, k, routes-end w, w .accepted .sized .limits .routes), go (step-is s h (w .accepted) i (w .exists)))
+    (omega (arith, q, k, routes-end (w .accepted) i (w .exists), w .accepted .sized .limits .routes), go (step-is s h (w .accepted) i (w .exists)))
   where
     go : StepKind s h (step s h i) → 2 ≤ count
-    go (is-operation z o p c) = omega (arith, k, operation-routes w e, operation-ok (w .accepted) (operationAt s h i) o .outcomes)
-    go (is-branch z o t l c) = omega (arith, k, branch-two w (ne-eqb (step s h i .w0) 0 (λ x. omega arith)))
+    go (is-operation z o p c) =
+        omega (arith, k, operation-routes (w .accepted) i (w .exists) e, operation-ok (w .accepted) (operationAt s h i) o .outcomes)
+    go (is-branch z o t l c) = omega (arith, k, branch-two (w .accepted) i (w .exists) (ne-eqb (step s h i .w0) 0 (λ x. omega arith)))

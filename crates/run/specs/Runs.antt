@@ -1,4 +1,4 @@
--- 01, "Flow" under "Evaluation", and 02, CR 1: a run of a flow. "Facts and verdicts are fixed at its start."
+-- 01, "Flow" under "Evaluation", and 02, CR 1 and CR 7: a run of a flow. "Facts and verdicts are fixed at its start."
 -- Assumes nothing.
 use mathlib.Core.Bool.{Bool, true, false}
 use mathlib.Core.List.{List, [], _∷_, _++_}
@@ -17,6 +17,7 @@ use Rattle.node.specs.FactValues.{FactValue}
 use Rattle.predicate.specs.Values.{truth}
 use Rattle.operation.specs.declared.Wanted.{Wanted}
 use Rattle.operation.specs.Outcomes.{wantedOf, goodWanted}
+use Rattle.instances.specs.Named.{covers}
 use Rattle.attempt.specs.Attempts.{attempted, attemptedStates}
 use Rattle.walks.specs.declared.Walker.{Walker}
 use Rattle.walks.specs.Paths.{firstStepOf, stepsOf, firstRouteOf, routesOf}
@@ -53,6 +54,13 @@ goodWord s h f words i = goodWanted (outcomesAt s h i) (wantedAt s h f words i)
 
 unfoldable pub goodWords : List ℤ → Header → ℕ → List ℤ → Bool
 goodWords s h f words = allBelow (λ k. goodWord s h f words (firstStepOf s h f + k)) (stepsOf s h f)
+
+-- 02, CR 7: "of all the flow's steps", reached or not: of each entity that the operation of a step names, `lent` says yes; a branch names none
+unfoldable pub stepCovers : List ℤ → Header → (ℕ → Bool) → ℕ → Bool
+stepCovers s h lent i = elim (performs s h i) [ true ↦ covers s h lent (operationAt s h i) | false ↦ true ]
+
+unfoldable pub flowCovers : List ℤ → Header → (ℕ → Bool) → ℕ → Bool
+flowCovers s h lent f = allBelow (λ k. stepCovers s h lent (firstStepOf s h f + k)) (stepsOf s h f)
 
 -- "an operation step answered 9, 10 or 11 .. takes the failure route", which is its last; "otherwise the route of its outcome"; 02: "in a
 -- flow 16 takes the failure route"

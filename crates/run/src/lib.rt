@@ -17,12 +17,13 @@ ghost use Rattle.operation.specs.Outcomes.{wantedOf};
 ghost use Rattle.attempt.specs.Attempts.{precondition, attempted, attemptedStates};
 ghost use Rattle.walks.specs.Paths.{stepsOf};
 ghost use Rattle.run.specs.Memo.{Memo};
-ghost use Rattle.run.specs.Runs.{performs, operationAt, personaAt, nodeAt, outcomesAt, goodWords, answerRoute, branchRoute, routeTaken, statesThen, ranWalk, ranPath, ranStates};
-ghost use Rattle.run.specs.Inner.{Steppable, Runnable};
+ghost use Rattle.run.specs.Runs.{performs, operationAt, personaAt, nodeAt, outcomesAt, goodWords, stepCovers, flowCovers, answerRoute, branchRoute, routeTaken, statesThen, ranWalk, ranPath, ranStates};
+ghost use Rattle.run.specs.Inner.{Steppable, Runnable, Seen};
 use answer::Count;
 use answer::Counted;
 use attempt::attempt_known;
 use attempt::precondition_holds;
+use instances::covers;
 use layout::Flow;
 use layout::Header;
 use layout::Node;
@@ -40,6 +41,7 @@ use walks::clear;
 use walks::first_route;
 use walks::first_step;
 use walks::routes;
+use walks::steps;
 use words::number;
 
 // Word j of a step's record.
@@ -208,6 +210,44 @@ pub fn good_words(s: &[i64], h: Header, flow: Flow, words: &[i64]) -> bool
     let mut k = 0;
     while k < words.len() {
         if !good_wanted(outcomes_at(s, h, first + k), wanted_at(words, k)) {
+            return false;
+        }
+        k += 1;
+    }
+    true
+}
+
+// Whether each entity that the operation of a step names is flagged. An operation that was found so once is not looked at again.
+fn step_covers(s: &[i64], h: Header, found: &[bool], seen: &mut [bool], step: usize) -> bool
+    requires { ⌜ Accepted (now s) h ⌝ }
+    requires { ⌜ step < h .steps ⌝ }
+    requires { ⌜ Seen (now s) h (now found) (now seen) ⌝ }
+    ensures { λ b. ⌜ b ≡ stepCovers (now (s .entry)) h (λ e. getD (now (found .entry)) e false) step ⌝ }
+    ensures { λ b. ⌜ Seen (now (s .entry)) h (now (found .entry)) (now (seen .exit)) ⌝ }
+{
+    if step_word(s, h, step, place::STEP_KIND) != 0 {
+        return true;
+    }
+    let o = step_word(s, h, step, place::STEP_OPERATION);
+    if seen[o] {
+        return true;
+    }
+    let b = covers(s, h, found, Operation(o));
+    seen[o] = b;
+    b
+}
+
+// The same of all the flow's steps.
+pub fn flow_covers(s: &[i64], h: Header, found: &[bool], flow: Flow) -> bool
+    requires { ⌜ Accepted (now s) h × (flow .0 < h .flows) ⌝ }
+    ensures { λ b. ⌜ b ≡ flowCovers (now (s .entry)) h (λ e. getD (now (found .entry)) e false) (flow .0) ⌝ }
+{
+    let mut seen = [false; Header::OPERATIONS];
+    let first = first_step(s, h, flow);
+    let n = steps(s, h, flow);
+    let mut k = 0;
+    while k < n {
+        if !step_covers(s, h, found, &mut seen, first + k) {
             return false;
         }
         k += 1;

@@ -1,6 +1,6 @@
 -- The first number that fails a test: what a scan of a stretch of numbers answers.
 -- Assumes nothing.
-use mathlib.Core.Path.{_≡_, refl, sym, subst}
+use mathlib.Core.Path.{_≡_, refl, sym, subst, _∙_}
 use mathlib.Core.Bool.{Bool, true, false}
 use Prim.Native.Nat.{ℕ, zero, suc, _+_, _-_, _≤_, _<_}
 use native.Mathlib.Omega.{arith}
@@ -107,3 +107,15 @@ module _ (f : ℕ → Bool) where
   -- where the first failure is past the last number, all pass
   pub all-pass : (n : ℕ) → n ≤ firstFail f 0 n → (j : ℕ) → j < n → f j ≡ true
   all-pass n h j l = first-scan n .passed j (omega arith) (omega arith)
+
+-- tests that agree below the bound fail first at the same number
+pub fail-same : (f g : ℕ → Bool) (n : ℕ) → ((j : ℕ) → j < n → f j ≡ g j) → firstFail f 0 n ≡ firstFail g 0 n
+fail-same f g n same =
+    let r = first-scan g n in
+    first-fail f n (firstFail g 0 n)
+    record {
+      low = r .low;
+      high = r .high;
+      passed = λ j p l. same j (omega (arith, r .high)) ∙ r .passed j p l;
+      fails = λ l. same (firstFail g 0 n) l ∙ r .fails l;
+    }

@@ -1,8 +1,8 @@
 //! `bench [MILLISECONDS]`: each call on the largest sheet, an eighth of it, the escrow example, and 01's sheet.
 //!
 //! At last runs that are hard where a precondition is worked out again for each step, operations that are refused 11
-//! after every effect was looked at, S2 of sheets with 32 entities and 512 transitions, and verdicts of a rule that is for
-//! all elements of a list.
+//! after every effect was looked at, S2 of sheets with 32 entities and 512 transitions, verdicts of a rule that is for
+//! all elements of a list, and operations and runs among many instances.
 //!
 //! The library and the reference are timed in turns in one process, the best of many rounds counts. Each case is
 //! timed for so many milliseconds (300 unless told). The answers are compared before.
@@ -45,6 +45,7 @@ struct Desk {
     lengths: Vec<i64>,
     rules: usize,
     states: Vec<i64>,
+    instances: Vec<i64>,
     persona: i64,
     operation: i64,
     wanted: i64,
@@ -124,7 +125,7 @@ fn main() {
     for entities in [4, 8, 16, 32] {
         let mut desk = Desk::of(&blocked_sheet(entities), 1);
         (desk.persona, desk.operation, desk.wanted) = (0, 0, -1);
-        desk.states[entities as usize - 1] = 2;
+        desk.states[3 * (entities as usize - 1) + 2] = 2;
         hard(Box::leak(Box::new(desk)), "operate", &format!("{entities} | {}", 16 * entities), time);
     }
 
@@ -164,6 +165,32 @@ fn main() {
         let line = format!("{lists} | {elements} | {}", 1 + 10 * elements);
         hard(Box::leak(Box::new(desk)), "verdicts", &line, time);
     }
+
+    println!("\n## Instances: the largest sheet, with so many of each entity, of which the last is named\n");
+    println!("| Call | Of each entity | Records | Library, µs | Reference, µs | Ratio |");
+    println!("|---|---:|---:|---:|---:|---:|");
+    for count in [1, 2, 4, 8] {
+        let mut desk = Desk::random(8);
+        (desk.states, desk.instances) = several(&desk.states, count);
+        let desk = Box::leak(Box::new(desk));
+        for call in ["operate", "run"] {
+            hard(desk, call, &format!("{call} | {count} | {}", desk.states.len() / 3), time);
+        }
+    }
+}
+
+/// Records of one instance of each entity, numbered 0, in these states.
+fn one_each(states: impl IntoIterator<Item = i64>) -> Vec<i64> {
+    states.into_iter().enumerate().flat_map(|(entity, state)| [entity as i64, 0, state]).collect()
+}
+
+/// So many instances for each that there is, in the same state, and the last of each entity.
+fn several(states: &[i64], count: i64) -> (Vec<i64>, Vec<i64>) {
+    let instances = |record: &[i64]| {
+        let [entity, _, state] = [record[0], record[1], record[2]];
+        (0..count).flat_map(move |number| [entity, number, state])
+    };
+    (states.chunks(3).flat_map(instances).collect(), vec![count - 1; states.len() / 3])
 }
 
 /// The times of one call of a desk.
@@ -328,7 +355,8 @@ impl Desk {
         let mut text = vec![0; 12 * words.len()];
         let length = reference::write_text(&words, &mut text).value as usize;
         text.truncate(length);
-        let states: Vec<i64> = sheet.tables[ENTITIES].iter().map(|entity| entity[1]).collect();
+        let states = one_each(sheet.tables[ENTITIES].iter().map(|entity| entity[1]));
+        let instances = vec![0; sheet.count(ENTITIES)];
         let given = vec![1; sheet.count(FACTS)];
         let steps = (0..sheet.count(FLOWS)).map(|flow| sheet.steps_of(flow).1).max().unwrap_or(0);
 
@@ -340,7 +368,18 @@ impl Desk {
             let flow = random.below(sheet.count(FLOWS)) as i64;
             let wanted = wanted_of(sheet, flow as usize, &mut random);
             let (mut states, mut path) = (states.clone(), vec![0; steps]);
-            let run = reference::run(&words, &tried, &given, &slots, &counts, &mut states, flow, &wanted, &mut path);
+            let run = reference::run(
+                &words,
+                &tried,
+                &given,
+                &slots,
+                &counts,
+                &mut states,
+                &instances,
+                flow,
+                &wanted,
+                &mut path,
+            );
             if run.count > longest {
                 (values, lists, lengths) = (tried, slots, counts);
                 (run_flow, run_wanted, longest) = (flow, wanted, run.count);
@@ -351,8 +390,18 @@ impl Desk {
             let tried = (random.below(sheet.count(PERSONAS)) as i64, random.below(sheet.count(OPERATIONS)) as i64);
             let word = random.below(sheet.tables[OPERATIONS][tried.1 as usize][4] as usize) as i64;
             let mut states = states.clone();
-            let answer =
-                reference::operate(&words, &values, &given, &lists, &lengths, &mut states, tried.0, tried.1, word);
+            let answer = reference::operate(
+                &words,
+                &values,
+                &given,
+                &lists,
+                &lengths,
+                &mut states,
+                &instances,
+                tried.0,
+                tried.1,
+                word,
+            );
             if answer.refusal == 0 {
                 (persona, operation, wanted) = (tried.0, tried.1, word);
                 break;
@@ -382,6 +431,7 @@ impl Desk {
             lists,
             lengths,
             states,
+            instances,
         }
     }
 }
@@ -439,6 +489,7 @@ fn cases(desk: &'static Desk) -> Vec<Case> {
                 &desk.lists,
                 &desk.lengths,
                 &mut states,
+                &desk.instances,
                 desk.persona,
                 desk.operation,
                 desk.wanted,
@@ -453,6 +504,7 @@ fn cases(desk: &'static Desk) -> Vec<Case> {
                 &desk.lists,
                 &desk.lengths,
                 &mut states,
+                &desk.instances,
                 desk.run_flow,
                 &desk.run_wanted,
                 &mut path,

@@ -84,7 +84,14 @@ fn attempt(call: &str, sheet: &str, bytes: usize) {
     let lengths: Vec<i64> = sheet.lists().map(|list| sheet.tables[FACTS][list][7]).collect();
     let lists: Vec<i64> =
         sheet.lists().zip(&lengths).flat_map(|(list, &length)| vec![values[list]; length as usize]).collect();
-    let mut states: Vec<i64> = sheet.tables[ENTITIES].iter().map(|entity| entity[1]).collect();
+    // As many instances as there may be.
+    let each = (reference::MOST_INSTANCES / counts[2].max(1)) as i64;
+    let instances_of = |(entity, record): (usize, &[i64; 8])| {
+        let initial = record[1];
+        (0..each).flat_map(move |number| [entity as i64, number, initial])
+    };
+    let mut states: Vec<i64> = sheet.tables[ENTITIES].iter().enumerate().flat_map(instances_of).collect();
+    let instances = vec![each - 1; counts[2]];
     let (mut assembled, mut path) = (values.clone(), [0; 256]);
     let (mut text, mut read) = (vec![0; 12 * words.len()], vec![0; words.len()]);
     let length = reference::write_text(&words, &mut text).value as usize;
@@ -102,8 +109,8 @@ fn attempt(call: &str, sheet: &str, bytes: usize) {
         "write_text" => raw::write_text(&words, &mut text),
         "assemble" => raw::assemble(&words, &mut assembled, &given, &lists, &lengths),
         "verdicts" => raw::verdicts(&words, &values, &given, &lists, &lengths, &mut verdicts),
-        "operate" => raw::operate(&words, &values, &given, &lists, &lengths, &mut states, 0, 0, -1),
-        "run" => raw::run(&words, &values, &given, &lists, &lengths, &mut states, 0, &wanted, &mut path),
+        "operate" => raw::operate(&words, &values, &given, &lists, &lengths, &mut states, &instances, 0, 0, -1),
+        "run" => raw::run(&words, &values, &given, &lists, &lengths, &mut states, &instances, 0, &wanted, &mut path),
         "first" => raw::first(&words, 0, &mut path),
         "next" => raw::next(&words, 0, &mut path),
         "states" => raw::states(&words, 0),

@@ -4,6 +4,7 @@ pub mod calls;
 pub mod compare;
 pub mod damage;
 pub mod generate;
+pub mod held;
 pub mod random;
 pub mod rounds;
 

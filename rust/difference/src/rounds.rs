@@ -6,6 +6,7 @@ use crate::damage::{self, hostile};
 use crate::generate::{
     self, Sheet, Wish, ENTITIES, FACTS, FLOWS, LIST, NODES, OPERATIONS, PERSONAS, ROUTES, RULES, STEPS,
 };
+use crate::held::Held;
 use crate::random::Random;
 use fernpocket::raw;
 use reference::{Answer, M};
@@ -63,7 +64,7 @@ fn shaped(eighths: usize, random: &mut Random) -> Wish {
 }
 
 /// A length, mostly the right one.
-fn length(right: usize, random: &mut Random) -> usize {
+pub(crate) fn length(right: usize, random: &mut Random) -> usize {
     match random.below(80) {
         0 => 0,
         1 => right + 1,
@@ -191,12 +192,12 @@ impl Round<'_> {
             0 | 1 => self.assemble(words),
             2..=4 => self.verdicts(words),
             5..=7 => {
-                let mut states = self.states();
-                self.operate(words, &mut states)
+                let mut held = Held::random(&self.sheet, &mut self.random);
+                self.operate(words, &mut held)
             }
             8..=10 => {
-                let mut states = self.states();
-                self.run(words, &mut states)
+                let mut held = Held::random(&self.sheet, &mut self.random);
+                self.run(words, &mut held)
             }
             11 | 12 => {
                 let flow = self.number(FLOWS);
@@ -224,14 +225,14 @@ impl Round<'_> {
         Ok(())
     }
 
-    /// A sequence of operations and runs, each from the states that the one before left.
+    /// A sequence of operations and runs, each from the states that the one before left, on instances of its own.
     fn desk(&mut self, words: &[i64], calls: usize) -> Done {
-        let initial: Vec<i64> = self.sheet.tables[ENTITIES].iter().map(|entity| entity[1]).collect();
-        let mut states = Lent::new(&initial, &mut self.random);
+        let mut held = Held::initial(&self.sheet, &mut self.random);
         for _ in 0..calls {
+            held = held.renamed(&self.sheet, &mut self.random);
             match self.random.chance(1, 4) {
-                true => self.run(words, &mut states)?,
-                false => self.operate(words, &mut states)?,
+                true => self.run(words, &mut held)?,
+                false => self.operate(words, &mut held)?,
             }
         }
         Ok(())
@@ -298,25 +299,6 @@ impl Round<'_> {
     /// Facts, mostly without a fault.
     fn facts(&mut self) -> Facts {
         Facts::random(&self.sheet, &mut self.random)
-    }
-
-    /// States, mostly good.
-    fn states(&mut self) -> Lent<i64> {
-        let count = self.sheet.count(ENTITIES);
-        let mut states: Vec<i64> = vec![];
-        for entity in 0..count {
-            let of_entity = self.sheet.tables[ENTITIES][entity][0] as usize;
-            states.push(self.random.below(of_entity) as i64);
-        }
-        if count > 0 && self.random.chance(1, 6) {
-            for _ in 0..1 + self.random.below(2) {
-                let entity = self.random.below(count);
-                let of_entity = self.sheet.tables[ENTITIES][entity][0];
-                states[entity] = hostile(&mut self.random, of_entity - 1);
-            }
-        }
-        states.resize(self.length(count), 0);
-        Lent::new(&states, &mut self.random)
     }
 
     /// A wanted word: none, or an outcome of the operation; seldom another number.
@@ -452,47 +434,59 @@ impl Round<'_> {
             .map(|_| ())
     }
 
-    fn operate(&mut self, words: &[i64], states: &mut Lent<i64>) -> Done {
+    fn operate(&mut self, words: &[i64], held: &mut Held) -> Done {
         let facts = self.facts();
         let operation = self.number(OPERATIONS);
         let persona = self.persona(operation);
         let wanted = self.wanted(operation);
-        let mut buffers = (facts, states.clone());
+        let mut buffers = (facts, held.clone());
         self.comparer.compare(
             Call::Operate,
             &mut buffers,
-            |(f, s)| with!(f, slice, reference::operate[words](s.lend(), persona, operation, wanted)),
-            |(f, s)| with!(f, slice, raw::operate[words](s.lend(), persona, operation, wanted)),
-            |(f, s)| {
+            |(f, Held { states, instances })| {
+                let (s, i) = (states.lend(), instances.slice());
+                with!(f, slice, reference::operate[words](s, i, persona, operation, wanted))
+            },
+            |(f, Held { states, instances })| {
+                let (s, i) = (states.lend(), instances.slice());
+                with!(f, slice, raw::operate[words](s, i, persona, operation, wanted))
+            },
+            |(f, h)| {
                 let wanted = option(wanted)?;
                 typed!(
                     [persona, operation],
-                    with!(f, slice, fernpocket::operate[words](s.lend(), persona, operation, wanted))
+                    h.typed(|s, i| with!(f, slice, fernpocket::operate[words](s, i, persona, operation, wanted)))
                 )
             },
             || format!("persona {persona}, operation {operation}, wanted {wanted}\n{}", show(words)),
         )?;
-        *states = buffers.1;
+        *held = buffers.1;
         Ok(())
     }
 
-    fn run(&mut self, words: &[i64], states: &mut Lent<i64>) -> Done {
+    fn run(&mut self, words: &[i64], held: &mut Held) -> Done {
         let facts = self.facts();
         let flow = self.number(FLOWS);
         let wanted = self.wanted_of_steps(flow);
-        let mut buffers = (facts, states.clone(), wanted, self.path(flow));
+        let mut buffers = (facts, held.clone(), wanted, self.path(flow));
         self.comparer.compare(
             Call::Run,
             &mut buffers,
-            |(f, s, w, p)| with!(f, slice, reference::run[words](s.lend(), flow, w.slice(), p.lend())),
-            |(f, s, w, p)| with!(f, slice, raw::run[words](s.lend(), flow, w.slice(), p.lend())),
-            |(f, s, w, p)| {
+            |(f, Held { states, instances }, w, p)| {
+                let (s, i) = (states.lend(), instances.slice());
+                with!(f, slice, reference::run[words](s, i, flow, w.slice(), p.lend()))
+            },
+            |(f, Held { states, instances }, w, p)| {
+                let (s, i) = (states.lend(), instances.slice());
+                with!(f, slice, raw::run[words](s, i, flow, w.slice(), p.lend()))
+            },
+            |(f, h, w, p)| {
                 let wanted = w.slice().iter().copied().map(option).collect::<Option<Vec<_>>>()?;
-                typed!([flow], with!(f, slice, fernpocket::run[words](s.lend(), flow, &wanted, p.lend())))
+                typed!([flow], h.typed(|s, i| with!(f, slice, fernpocket::run[words](s, i, flow, &wanted, p.lend()))))
             },
             || format!("flow {flow}\n{}", show(words)),
         )?;
-        *states = buffers.1;
+        *held = buffers.1;
         Ok(())
     }
 

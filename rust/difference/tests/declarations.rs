@@ -177,6 +177,9 @@ fn limits_are_the_same_everywhere() {
     assert_eq!((constant("MOST_WORDS"), constant("MOST_TEXT")), (words, 12 * words));
     assert_eq!(constant("MOST_LENGTH"), reference::MOST_LENGTH);
     assert_eq!(constant("MOST_SLOTS"), reference::MOST_LENGTH * constant("MOST_FACTS"));
+    assert_eq!(constant("INSTANCE_WORDS"), reference::INSTANCE_WORDS as i64);
+    assert_eq!(constant("MOST_INSTANCES"), reference::MOST_INSTANCES as i64);
+    assert_eq!(constant("MOST_INSTANCES"), fernpocket::States::MOST as i64);
     assert_eq!(constant("LARGEST_NUMBER"), reference::M);
     assert_eq!(constant("STACK"), fernpocket::STACK as i64);
 }

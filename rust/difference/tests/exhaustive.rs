@@ -4,7 +4,7 @@ use difference::calls::Call;
 use difference::compare::{four, Comparer, Lent};
 use difference::generate::{self, Wish};
 use difference::random::Random;
-use fernpocket::{example, raw};
+use fernpocket::{example, raw, States};
 use reference::M;
 
 #[rustfmt::skip]
@@ -165,6 +165,136 @@ fn every_word_of_lent_lists() {
         }
     }
     println!("{}", comparer.reached);
+}
+
+/// The sheet of examples/parcels.md: operations that touch one of two entities, or both, in some outcome.
+fn parcels() -> Vec<i64> {
+    let text = include_bytes!("../../../examples/parcels.txt");
+    let mut words = vec![0; text.len() / 2];
+    let count = reference::read_text(text, &mut words).value as usize;
+    words.truncate(count);
+    words
+}
+
+/// Operations, with each outcome and with none wanted, and runs, on these states and instances.
+fn operations(comparer: &mut Comparer, words: &[i64], states: &[i64], instances: &[i64]) {
+    let (values, given) = (&[1], &[1]);
+    for (operation, persona, wanted) in
+        [(0, 0, -1), (1, 1, -1), (1, 1, 0), (1, 1, 1), (2, 0, -1), (3, 0, -1), (0, 1, 0), (0, 0, 1)]
+    {
+        let mut left = states.to_vec();
+        let choice = usize::try_from(wanted).ok();
+        let result = comparer.compare(
+            Call::Operate,
+            &mut left,
+            |left| reference::operate(words, values, given, &[], &[], left, instances, persona, operation, wanted),
+            |left| raw::operate(words, values, given, &[], &[], left, instances, persona, operation, wanted),
+            |left| {
+                let (persona, operation) = (persona as usize, operation as usize);
+                let mut table = States::from_words(left.clone());
+                let outcome = fernpocket::operate(
+                    words,
+                    values,
+                    given,
+                    &[],
+                    &[],
+                    &mut table,
+                    instances,
+                    persona,
+                    operation,
+                    choice,
+                );
+                *left = table.words().to_vec();
+                Some(four(outcome))
+            },
+            || format!("states {states:?}, instances {instances:?}, operation {operation}, wanted {wanted}"),
+        );
+        agree(result.map(|_| ()));
+    }
+    for (fact, wanted) in [(1, [-1, 0]), (1, [-1, 1]), (0, [0, -1])] {
+        let mut left = (states.to_vec(), [7u16; 3]);
+        let choice = wanted.map(|word| usize::try_from(word).ok());
+        let result = comparer.compare(
+            Call::Run,
+            &mut left,
+            |(left, path)| reference::run(words, &[fact], given, &[], &[], left, instances, 0, &wanted, path),
+            |(left, path)| raw::run(words, &[fact], given, &[], &[], left, instances, 0, &wanted, path),
+            |(left, path)| {
+                let mut table = States::from_words(left.clone());
+                let end = fernpocket::run(words, &[fact], given, &[], &[], &mut table, instances, 0, &choice, path);
+                *left = table.words().to_vec();
+                Some(four(end))
+            },
+            || format!("states {states:?}, instances {instances:?}, fact {fact}, wanted {wanted:?}"),
+        );
+        agree(result.map(|_| ()));
+    }
+}
+
+#[test]
+fn every_word_of_lent_states() {
+    let mut comparer = Comparer::default();
+    let words = parcels();
+    assert_eq!(reference::check(&words).refusal, 0);
+    for parcel in 0..4 {
+        let mut lent = [vec![0, 3, 0, 0, 4, 1, 1, -1, 1, 1, 3, parcel, 1, 5, 3], vec![3, 3]];
+        operations(&mut comparer, &words, &lent[0], &lent[1]);
+        for slice in 0..2 {
+            for place in 0..lent[slice].len() {
+                let old = lent[slice][place];
+                for value in VALUES.into_iter().chain([-3, old - 1, old + 1, old + (1 << 32), -old]) {
+                    lent[slice][place] = value;
+                    operations(&mut comparer, &words, &lent[0], &lent[1]);
+                }
+                lent[slice][place] = old;
+            }
+            let whole = lent[slice].clone();
+            for length in 0..=whole.len() + 4 {
+                lent[slice].resize(length, 2);
+                operations(&mut comparer, &words, &lent[0], &lent[1]);
+            }
+            lent[slice] = whole;
+        }
+        // Every order of the records, and every one of them twice.
+        for (first, second) in (0..25).map(|code| (code / 5, code % 5)) {
+            let mut records = lent[0].clone();
+            (0..3).for_each(|word| records.swap(3 * first + word, 3 * second + word));
+            operations(&mut comparer, &words, &records, &lent[1]);
+            let again = lent[0][3 * first..3 * first + 3].to_vec();
+            records = lent[0].clone();
+            records.splice(3 * second..3 * second, again);
+            operations(&mut comparer, &words, &records, &lent[1]);
+        }
+    }
+    // Two words of two records at once.
+    let base = [0, 0, 0, 1, 0, 1];
+    for (one, other) in (0..36).map(|code| (code / 6, code % 6)) {
+        for (value, second) in (0..25).map(|code| (code / 5 - 1, code % 5 - 1)) {
+            let mut records = base;
+            (records[one], records[other]) = (value, second);
+            operations(&mut comparer, &words, &records, &[0, 0]);
+        }
+    }
+    println!("{}", comparer.reached);
+}
+
+#[test]
+fn every_length_of_many_states() {
+    let mut comparer = Comparer::default();
+    let words = parcels();
+    let all: Vec<i64> = (0..260).flat_map(|number| [number / 130, number, 0]).collect();
+    for length in (0..12).chain(760..780) {
+        operations(&mut comparer, &words, &all[..length], &[0, 130]);
+        operations(&mut comparer, &words, &all[..length], &[0, 255]);
+    }
+    // A fault at every record, of as many as there may be.
+    for number in 0..256 {
+        for (word, value) in [(0, 2), (0, -1), (1, -1), (1, i64::MAX), (2, 4), (2, -1)] {
+            let mut states = all[..768].to_vec();
+            states[3 * number + word] = value;
+            operations(&mut comparer, &words, &states, &[5, 200]);
+        }
+    }
 }
 
 #[test]

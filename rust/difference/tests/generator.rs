@@ -2,10 +2,12 @@
 
 use difference::damage;
 use difference::generate::*;
+use difference::held::{Held, Instance};
 use difference::random::Random;
 use difference::rounds::Facts;
-use reference::{HEADER, M, RECORD};
-use std::collections::BTreeMap;
+use fernpocket::States;
+use reference::{Answer, HEADER, INSTANCE_WORDS, M, MOST_INSTANCES, RECORD};
+use std::collections::{BTreeMap, BTreeSet};
 
 /// What the sheets have, and how many have it.
 #[derive(Default)]
@@ -539,6 +541,234 @@ fn lent_lists_of_every_sort_are_made() {
                         seen.note(format!("{name} over no elements"), lengths[number] == 0);
                         assert!(lengths[number] > 0 || *verdict == (kind == 14) as i64);
                     }
+                }
+            }
+        }
+    }
+    made(&seen);
+}
+
+/// The entities that the effects of an operation name, of one outcome or of all.
+fn touched(sheet: &Sheet, operation: i64, outcome: Option<i64>) -> BTreeSet<i64> {
+    let [_, _, first, count, ..] = sheet.tables[OPERATIONS][operation as usize];
+    let effects = &sheet.tables[EFFECTS][first as usize..(first + count) as usize];
+    let own = |effect: &&Record| outcome.is_none_or(|outcome| effect[3] == outcome);
+    effects.iter().filter(own).map(|effect| effect[0]).collect()
+}
+
+/// The entities that the operations of steps of a flow touch.
+fn touched_by<'a>(sheet: &Sheet, steps: impl Iterator<Item = &'a Record>) -> BTreeSet<i64> {
+    steps.filter(|step| step[0] == 0).flat_map(|step| touched(sheet, step[1], None)).collect()
+}
+
+fn key([entity, number, _]: &Instance) -> (i64, i64) {
+    (*entity, *number)
+}
+
+/// What is wrong with a record that is refused 8.
+fn note_fault(seen: &mut Seen, who: &str, sheet: &Sheet, records: &[Instance], place: usize) {
+    let mut kind = |what: &str, there: bool| seen.note(format!("{who}, refused 8 for {what}"), there);
+    let count = sheet.count(ENTITIES) as i64;
+    let [entity, number, state] = records[place];
+    let before = place.checked_sub(1).map(|before| records[before]);
+    let known = (0..count).contains(&entity);
+    let above = before.is_none_or(|before| key(&before) < (entity, number));
+    kind("an entity below 0", entity < 0);
+    kind("the least word as entity", entity == i64::MIN);
+    kind("an entity one past the last", entity == count && above);
+    kind("the greatest word as entity", entity == i64::MAX && above);
+    let states = if known { sheet.tables[ENTITIES][entity as usize][0] } else { 0 };
+    kind("a state below 0", known && above && state < 0);
+    kind("a state one past the last", known && above && state == states);
+    kind("the least word as state", known && above && state == i64::MIN);
+    kind("the greatest word as state", known && above && state == i64::MAX);
+    let good = known && (0..states).contains(&state);
+    let is = |test: &dyn Fn(Instance) -> bool| good && before.is_some_and(test);
+    kind("two equal records", is(&|before| before == [entity, number, state]));
+    kind(
+        "two records of one instance in two states",
+        is(&|before| before[..2] == [entity, number] && before[2] != state),
+    );
+    kind("an instance that falls", is(&|before| before[0] == entity && before[1] > number));
+    kind("an entity that falls, the instance rising", is(&|before| before[0] > entity && before[1] < number));
+    let by_instance = records.is_sorted_by_key(|record| (record[1], record[0]));
+    kind("records sorted by instance before entity", good && records.len() > 2 && by_instance);
+    for (what, places) in [("record 0", 0..1), ("a record of 100 to 254", 100..255), ("record 255", 255..256)] {
+        kind(what, places.contains(&place));
+    }
+}
+
+/// What there is of records and named instances that a call with good facts and numbers was lent, what it read, and what
+/// came of it.
+fn note_held(
+    seen: &mut Seen,
+    who: &str,
+    sheet: &Sheet,
+    held: &Held,
+    read: &BTreeSet<i64>,
+    answer: Answer,
+    after: &[i64],
+) {
+    let (states, named, count) = (held.states.slice(), held.instances.slice(), sheet.count(ENTITIES));
+    let (records, rest) = states.as_chunks::<INSTANCE_WORDS>();
+    if answer.refusal == 4 {
+        let mut kind = |what: &str, there: bool| seen.note(format!("{who}, refused 4 for {what}"), there);
+        kind("a word more than records", rest.len() == 1);
+        kind("two words more than records", rest.len() == 2);
+        kind("257 records", rest.is_empty() && records.len() == MOST_INSTANCES + 1);
+        kind("more records", rest.is_empty() && records.len() > MOST_INSTANCES + 1);
+        kind("an instance number too few", named.len() + 1 == count);
+        kind("an instance number too many", named.len() == count + 1);
+        return;
+    }
+    let at = |entity: i64| records.iter().position(|record| key(record) == (entity, named[entity as usize]));
+    let of = |entity: i64| records.iter().filter(|record| record[0] == entity).count();
+    let above = records.windows(2).all(|pair| key(&pair[0]) < key(&pair[1]));
+    let exists = |&[entity, _, state]: &Instance| {
+        (0..count as i64).contains(&entity) && (0..sheet.tables[ENTITIES][entity as usize][0]).contains(&state)
+    };
+    let missing: Vec<i64> = read.iter().copied().filter(|&entity| at(entity).is_none()).collect();
+    assert_eq!(answer.refusal == 5, !missing.is_empty(), "{held:?} {read:?}");
+    if answer.refusal == 5 {
+        let mut kind = |what: &str, there: bool| seen.note(format!("{who}, refused 5 with {what}"), there);
+        kind("other instances of the entity", missing.iter().any(|&entity| of(entity) > 0));
+        kind("no instance of the entity", missing.iter().any(|&entity| of(entity) == 0));
+        kind("no record at all", records.is_empty());
+        kind(
+            "another entity's instance of that number",
+            missing
+                .iter()
+                .any(|&entity| records.iter().any(|record| record[0] != entity && record[1] == named[entity as usize])),
+        );
+        kind("records that are not sorted", !above);
+        kind("an entity or a state out of range", !records.iter().all(exists));
+        kind("a record for another entity that is read", missing.len() < read.len());
+        return;
+    }
+    let mut kind = |what: &str, there: bool| seen.note(format!("{who}, {what}"), there);
+    if answer.refusal == 8 {
+        let place = answer.place as usize;
+        let [entity, number, _] = records[place];
+        let is_read = read.contains(&entity);
+        kind("refused 8 at an entity that is not read", !is_read && (0..count as i64).contains(&entity));
+        kind("refused 8 at an instance that is read", is_read && named[entity as usize] == number);
+        kind("refused 8 at another instance of an entity that is read", is_read && named[entity as usize] != number);
+        kind("refused 8, an instance that is read past the fault", read.iter().any(|&entity| at(entity) > Some(place)));
+        note_fault(seen, who, sheet, records, place);
+        return;
+    }
+    let several = records.len() > count;
+    if answer.refusal != 0 {
+        kind(&format!("refused {} among several instances", answer.refusal), several);
+        assert_eq!(states, after);
+        return;
+    }
+    if read.is_empty() {
+        kind("of no record", records.is_empty() && count > 0);
+    }
+    kind("of one instance each, numbered 0", records.iter().map(key).eq((0..count as i64).map(|entity| (entity, 0))));
+    kind("of 256 records", records.len() == MOST_INSTANCES);
+    kind("of an entity without a record", (0..count as i64).any(|entity| of(entity) == 0));
+    kind(
+        "of a named instance without a record, that is not read",
+        (0..count as i64).any(|e| at(e).is_none() && of(e) > 0),
+    );
+    let moved: Vec<usize> = (0..records.len()).filter(|&place| states[3 * place + 2] != after[3 * place + 2]).collect();
+    for &place in &moved {
+        let [entity, number, _] = records[place];
+        assert!(read.contains(&entity) && named[entity as usize] == number, "an instance moved that is not named");
+        kind("moves one of several instances", of(entity) > 1);
+        kind("moves one of 8 instances or more", of(entity) >= 8);
+        kind("moves an instance below 0", number < 0);
+        kind("moves the instance of the least number", number == i64::MIN);
+        kind("moves the instance of the greatest number", number == i64::MAX);
+        kind("moves the first record", place == 0);
+        kind("moves the last of several records", place > 0 && place + 1 == records.len());
+    }
+    kind("moves instances of two entities", moved.len() > 1);
+    kind("leaves all as it was", moved.is_empty());
+    let mut left = after.to_vec();
+    moved.iter().for_each(|&place| left[3 * place + 2] = states[3 * place + 2]);
+    assert_eq!(left, states, "a word was written that is no state");
+}
+
+#[test]
+fn lent_states_of_every_sort_are_made() {
+    let mut seen = Seen::default();
+    for round in 0..4000 {
+        let mut random = Random::of_round(8, round);
+        let sheet = sheet(&Wish::random(&mut random), &mut random);
+        let words = sheet.words();
+        let values: Vec<i64> = (0..sheet.count(FACTS)).map(|fact| sheet.value_of(fact, &mut random)).collect();
+        let given = vec![1; values.len()];
+        let (lists, lengths) = sheet.lent_lists(&mut random);
+        for _ in 0..10 {
+            if sheet.count(OPERATIONS) > 0 {
+                let held = Held::random(&sheet, &mut random);
+                let operation = random.below(sheet.count(OPERATIONS));
+                let [mask, _, _, _, outcomes, ..] = sheet.tables[OPERATIONS][operation];
+                let (operation, any) = (operation as i64, random.below(sheet.personas) as i64);
+                let persona = if random.chance(1, 8) { any } else { mask.trailing_zeros() as i64 };
+                let wanted = random.within(-1, outcomes - 1);
+                let (mut after, named) = (held.states.slice().to_vec(), held.instances.slice());
+                let answer = reference::operate(
+                    &words, &values, &given, &lists, &lengths, &mut after, named, persona, operation, wanted,
+                );
+                let read = touched(&sheet, operation, None);
+                note_held(&mut seen, "an operation", &sheet, &held, &read, answer, &after);
+                if answer.refusal == 5 && wanted != -1 {
+                    let own = touched(&sheet, operation, Some(wanted));
+                    let there = |entity: &i64| {
+                        let record = [*entity, named[*entity as usize]];
+                        held.states.slice().chunks(INSTANCE_WORDS).any(|words| words[..2] == record)
+                    };
+                    seen.note("an operation, refused 5 for another outcome than the wanted one", own.iter().all(there));
+                }
+            }
+            if sheet.count(FLOWS) > 0 {
+                let held = Held::random(&sheet, &mut random);
+                let flow = random.below(sheet.count(FLOWS));
+                let (first, count) = sheet.steps_of(flow);
+                let steps = &sheet.tables[STEPS][first..first + count];
+                let (wanted, mut path) = (vec![-1; count], vec![0; count]);
+                let named = held.instances.slice();
+                let mut run = |states: &mut [i64]| {
+                    reference::run(
+                        &words,
+                        &values,
+                        &given,
+                        &lists,
+                        &lengths,
+                        states,
+                        named,
+                        flow as i64,
+                        &wanted,
+                        &mut path,
+                    )
+                };
+                let mut after = held.states.slice().to_vec();
+                let answer = run(&mut after);
+                let read = touched_by(&sheet, steps.iter());
+                note_held(&mut seen, "a run", &sheet, &held, &read, answer, &after);
+                if answer.refusal != 5 {
+                    continue;
+                }
+                // With a record for each of those that are missing, does the run come to a step that touches one of them?
+                let mut states = States::from_words(held.states.slice().to_vec());
+                let missing =
+                    read.iter().filter(|&&entity| states.get(entity as usize, named[entity as usize]).is_none());
+                let missing: BTreeSet<i64> = missing.copied().collect();
+                for &entity in &missing {
+                    states.insert(entity as usize, named[entity as usize], 0);
+                }
+                let answer = run(states.words_mut());
+                if answer.refusal == 0 {
+                    let routes = &path[..answer.count as usize];
+                    let of_step =
+                        |step: &&Record| routes.iter().any(|&r| (step[3]..step[3] + step[4]).contains(&(r as i64)));
+                    let reached = touched_by(&sheet, steps.iter().filter(of_step));
+                    seen.note("a run, refused 5 for steps that it does not reach alone", missing.is_disjoint(&reached));
+                    seen.note("a run, refused 5 for a step that it reaches", !missing.is_disjoint(&reached));
                 }
             }
         }

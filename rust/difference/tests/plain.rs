@@ -137,6 +137,53 @@ fn values(sheet: &Sheet, facts: &Known, verdicts: &[i64], at_hand: Option<(i64, 
     of
 }
 
+/// Instances of a sheet's entities, of which the named ones are looked at alone.
+struct Instances {
+    /// Entity and number of each, sorted.
+    all: Vec<(usize, i64)>,
+    /// The states of those that are not named stay what they are here.
+    others: Vec<i64>,
+    named: Vec<i64>,
+}
+
+impl Instances {
+    /// Up to three of each entity, and one of them named.
+    fn random(sheet: &Sheet, random: &mut Random) -> Instances {
+        let (mut all, mut others, mut named) = (vec![], vec![], vec![]);
+        for (entity, &[states, ..]) in sheet.tables[ENTITIES].iter().enumerate() {
+            let (first, count) = (random.within(-4, 4), 1 + random.below(3));
+            for number in first..first + count as i64 {
+                all.push((entity, number));
+                others.push(random.below(states as usize) as i64);
+            }
+            named.push(first + random.below(count) as i64);
+        }
+        Instances { all, others, named }
+    }
+
+    /// The records, with these states of the named instances.
+    fn records(&self, states: &[i64]) -> Vec<i64> {
+        let state = |(&(entity, number), other): (&(usize, i64), &i64)| {
+            let state = if self.named[entity] == number { states[entity] } else { *other };
+            [entity as i64, number, state]
+        };
+        self.all.iter().zip(&self.others).flat_map(state).collect()
+    }
+
+    /// A call on the records, as one on the states of the named instances.
+    fn call(&self, states: &mut [i64], call: impl FnOnce(&mut [i64], &[i64]) -> Answer) -> Answer {
+        let mut records = self.records(states);
+        let answer = call(&mut records, &self.named);
+        for (&(entity, number), record) in self.all.iter().zip(records.chunks(3)) {
+            if self.named[entity] == number {
+                states[entity] = record[2];
+            }
+        }
+        assert_eq!(records, self.records(states), "nothing else is written");
+        answer
+    }
+}
+
 #[test]
 fn verdicts_runs_and_operations_by_the_definition() {
     let (mut runs, mut moves, mut several, mut blocked, mut quantifiers) = (0, 0, 0, 0, 0);
@@ -170,6 +217,7 @@ fn verdicts_runs_and_operations_by_the_definition() {
         let start: Vec<i64> = (0..sheet.count(ENTITIES))
             .map(|entity| random.below(sheet.tables[ENTITIES][entity][0] as usize) as i64)
             .collect();
+        let instances = Instances::random(&sheet, &mut random);
         for flow in 0..sheet.count(FLOWS) {
             // The run, step by step with the public operation.
             let (first, steps) = sheet.steps_of(flow);
@@ -191,17 +239,20 @@ fn verdicts_runs_and_operations_by_the_definition() {
                 } else {
                     let before = states.clone();
                     let wanted = wanted[step - first_step];
-                    let answer = reference::operate(
-                        &words,
-                        &facts,
-                        &given,
-                        &slots,
-                        &lengths,
-                        &mut states,
-                        persona,
-                        what,
-                        wanted,
-                    );
+                    let operate = |states: &mut [i64], named: &[i64]| {
+                        reference::operate(
+                            &words, &facts, &given, &slots, &lengths, states, named, persona, what, wanted,
+                        )
+                    };
+                    let answer = instances.call(&mut states, operate);
+                    // One instance each, numbered 0, answers the same.
+                    let each = Instances {
+                        all: (0..before.len()).map(|entity| (entity, 0)).collect(),
+                        others: before.clone(),
+                        named: vec![0; before.len()],
+                    };
+                    let mut alone = before.clone();
+                    assert_eq!((each.call(&mut alone, operate), alone), (answer, states.clone()));
                     check_operation(&sheet, &of, (what as usize, wanted), persona, &before, &states, answer);
                     moves += (answer.refusal == 0) as usize;
                     several += (answer.refusal == 16) as usize;
@@ -219,8 +270,10 @@ fn verdicts_runs_and_operations_by_the_definition() {
                 }
             };
             let (mut left, mut buffer) = (start.clone(), vec![5; steps]);
-            let answer =
-                reference::run(&words, &facts, &given, &slots, &lengths, &mut left, flow as i64, &wanted, &mut buffer);
+            let answer = instances.call(&mut left, |states, named| {
+                let (flow, path) = (flow as i64, &mut buffer);
+                reference::run(&words, &facts, &given, &slots, &lengths, states, named, flow, &wanted, path)
+            });
             assert_eq!(answer, Answer { value: terminal, count: path.len() as i64, ..Answer::default() });
             path.resize(steps, 0);
             assert_eq!((left, buffer), (states, path));

@@ -120,6 +120,7 @@ fn the_document_s_sheet() {
 fn the_examples() {
     agree(include_bytes!("../../../examples/escrow.txt"));
     agree(include_bytes!("../../../examples/documents.txt"));
+    agree(include_bytes!("../../../examples/parcels.txt"));
 }
 
 #[test]

@@ -16,23 +16,25 @@
 //! | `lists` | the elements of each fact that is a list, in the order of the facts: as many slots as its largest length, the first of them filled, the others not read | the sum of the lists' largest lengths, exactly |
 //! | `lengths` | how many elements each fact that is a list has, in the order of the facts | the sheet's lists, exactly |
 //! | `verdicts` | the verdict of each rule, 1 or 0 | the sheet's rules, exactly |
-//! | `states` | the present state of each entity | the sheet's entities, exactly |
+//! | `states` | a record of entity, instance number and state for each instance of an entity: see [`States`] | at most 256 records |
+//! | `instances` | for each entity the number of the instance that the call is about; those of entities that the operation, or an operation of the flow, does not touch are not read | the sheet's entities, exactly |
 //! | `wanted` | for each step of the flow the outcome that is wanted of its operation; none leaves it to the states | the flow's steps, exactly |
 //! | `path` | the numbers of the routes taken, then zeros | the flow's steps or more; 256 always serves |
 //!
 //! A call needs up to [`STACK`] bytes of stack, whatever the sheet.
 //!
 //! ```
-//! use fernpocket::{check, example, run, Path, Refusal, Terminal};
+//! use fernpocket::{check, example, run, Path, Refusal, States, Terminal};
 //!
 //! let mut sheet = example::sheet();
 //! assert_eq!(check(&sheet), Ok(()));
 //!
-//! // Fact 0 is given as 1; entity 0 is in state 0; step 0 is a branch; of the operation of step 1 outcome 0 is wanted.
-//! let (mut states, mut path) = ([0], [0; 2]);
-//! let end = run(&sheet, &[1], &[1], &[], &[], &mut states, 0, &[None, Some(0)], &mut path)?;
+//! // Fact 0 is given as 1; entity 0 has one instance, numbered 0, in state 0; step 0 is a branch; of the operation of step 1
+//! // outcome 0 is wanted.
+//! let (mut states, mut path) = (States::one_each(&[0]), [0; 2]);
+//! let end = run(&sheet, &[1], &[1], &[], &[], &mut states, &[0], 0, &[None, Some(0)], &mut path)?;
 //! assert_eq!(end, Path { terminal: Terminal::Success, length: 2 });
-//! assert_eq!((states, path), ([1], [0, 2]));
+//! assert_eq!((states.get(0, 0), path), (Some(1), [0, 2]));
 //!
 //! sheet[16 + 8 * 8 + 3] = 2; // record 8 is an effect: its outcome
 //! assert_eq!(check(&sheet), Err(Refusal::Record(8)));
@@ -43,9 +45,11 @@
 pub mod example;
 pub mod raw;
 mod refusal;
+mod states;
 
 use raw::Answer;
 pub use refusal::Refusal;
+pub use states::{States, Twice};
 
 /// The bytes of stack that a call may need, measured on x86-64 and rounded up: the header's `FERNPOCKET_STACK`.
 pub const STACK: usize = 224 * 1024;
@@ -267,27 +271,33 @@ pub fn verdicts(
     done(raw::verdicts(sheet, values, given, lists, lengths, verdicts))
 }
 
-/// Performs an operation on the states and answers the outcome: the wanted one, or where none is wanted the only one that
-/// applies. The states are then those after the outcome.
+/// Performs an operation on the named instances and answers the outcome: the wanted one, or where none is wanted the only one
+/// that applies. The named instances are then in the states after the outcome; every other instance stays as it was.
 ///
 /// Refused for a sheet's refusals, [`Refusal::Length`], [`Refusal::Missing`], [`Refusal::FactValue`],
 /// [`Refusal::FactAbsent`], [`Refusal::State`], [`Refusal::Persona`], [`Refusal::Precondition`],
 /// [`Refusal::NoOutcome`] and [`Refusal::ManyOutcomes`].
 ///
 /// ```
-/// use fernpocket::{example, operate, Refusal};
+/// use fernpocket::{example, operate, Refusal, States};
 ///
 /// let sheet = example::sheet();
-/// let mut states = [0];
+/// // Entity 0 has two instances, 10 and 11, both in state 0.
+/// let mut states = States::new([(0, 10, 0), (0, 11, 0)])?;
 /// // Both outcomes apply to state 0.
-/// assert_eq!(operate(&sheet, &[1], &[1], &[], &[], &mut states, 0, 0, None), Err(Refusal::ManyOutcomes));
-/// assert_eq!(operate(&sheet, &[1], &[1], &[], &[], &mut states, 0, 0, Some(1)), Ok(1));
-/// assert_eq!(states, [2]);
+/// let refused = operate(&sheet, &[1], &[1], &[], &[], &mut states, &[11], 0, 0, None);
+/// assert_eq!(refused, Err(Refusal::ManyOutcomes));
+/// // Instance 11 is named, and moves.
+/// assert_eq!(operate(&sheet, &[1], &[1], &[], &[], &mut states, &[11], 0, 0, Some(1)), Ok(1));
+/// assert_eq!((states.get(0, 10), states.get(0, 11)), (Some(0), Some(2)));
 /// // Neither applies to state 2: entity 0 is in the way.
-/// let blocked = operate(&sheet, &[1], &[1], &[], &[], &mut states, 0, 0, Some(1)).unwrap_err();
+/// let blocked = operate(&sheet, &[1], &[1], &[], &[], &mut states, &[11], 0, 0, Some(1)).unwrap_err();
 /// assert_eq!(blocked, Refusal::NoOutcome { entity: 0, wanted: Some(1) });
 /// assert_eq!(blocked.to_string(), "refused 11 at 0: entity 0 is in no state that outcome 1 starts from");
-/// # Ok::<(), fernpocket::Refusal>(())
+/// // There is no instance 12.
+/// let refused = operate(&sheet, &[1], &[1], &[], &[], &mut states, &[12], 0, 0, Some(1));
+/// assert_eq!(refused, Err(Refusal::Missing));
+/// # Ok::<(), Box<dyn std::error::Error>>(())
 /// ```
 pub fn operate(
     sheet: &[i64],
@@ -295,7 +305,8 @@ pub fn operate(
     given: &[i64],
     lists: &[i64],
     lengths: &[i64],
-    states: &mut [i64],
+    states: &mut States,
+    instances: &[i64],
     persona: usize,
     operation: usize,
     wanted: Option<usize>,
@@ -306,7 +317,8 @@ pub fn operate(
         given,
         lists,
         lengths,
-        states,
+        states.words_mut(),
+        instances,
         number(persona),
         number(operation),
         wanted_word(wanted),
@@ -314,22 +326,23 @@ pub fn operate(
     value(answer).map_err(|_| refusal(answer, wanted))
 }
 
-/// Runs a flow: changes the states, and puts the path in the buffer. For each step of the flow `wanted` has the outcome
-/// that is wanted of its operation, or none, as for a branch.
+/// Runs a flow on the named instances: changes their states, and puts the path in the buffer. For each step of the flow
+/// `wanted` has the outcome that is wanted of its operation, or none, as for a branch.
 ///
 /// A step that is refused takes its failure route; the run goes on, and what earlier steps changed remains. So a run that
-/// ends in [`Terminal::Failure`] is answered `Ok`.
+/// ends in [`Terminal::Failure`] is answered `Ok`. The named instances are the same for all steps, and those that an
+/// operation of any step touches must have a record, whether or not the run reaches that step.
 ///
 /// Refused for a sheet's refusals, [`Refusal::Length`], [`Refusal::Missing`], [`Refusal::FactValue`],
 /// [`Refusal::FactAbsent`] and [`Refusal::State`].
 ///
 /// ```
-/// use fernpocket::{example, run, Path, Terminal};
+/// use fernpocket::{example, run, Path, States, Terminal};
 ///
-/// let (mut states, mut path) = ([1], [0; 2]);
-/// let end = run(&example::sheet(), &[1], &[1], &[], &[], &mut states, 0, &[None, None], &mut path)?;
+/// let (mut states, mut path) = (States::one_each(&[1]), [0; 2]);
+/// let end = run(&example::sheet(), &[1], &[1], &[], &[], &mut states, &[0], 0, &[None, None], &mut path)?;
 /// assert_eq!(end, Path { terminal: Terminal::Escalation, length: 2 });
-/// assert_eq!((states, path), ([1], [0, 4]));
+/// assert_eq!((states.each(), path), (Some(vec![1]), [0, 4]));
 /// # Ok::<(), fernpocket::Refusal>(())
 /// ```
 pub fn run(
@@ -338,7 +351,8 @@ pub fn run(
     given: &[i64],
     lists: &[i64],
     lengths: &[i64],
-    states: &mut [i64],
+    states: &mut States,
+    instances: &[i64],
     flow: usize,
     wanted: &[Option<usize>],
     path: &mut [u16],
@@ -346,8 +360,9 @@ pub fn run(
     // No flow has more than 256 steps, so a longer slice is as wrong as one of 257.
     let mut words = [-1; 257];
     words.iter_mut().zip(wanted).for_each(|(word, &wanted)| *word = wanted_word(wanted));
-    let count = wanted.len().min(words.len());
-    path_of(raw::run(sheet, values, given, lists, lengths, states, number(flow), &words[..count], path))
+    let wanted = &words[..wanted.len().min(words.len())];
+    let states = states.words_mut();
+    path_of(raw::run(sheet, values, given, lists, lengths, states, instances, number(flow), wanted, path))
 }
 
 /// S6: puts a flow's first path in the buffer, whatever that holds.

@@ -36,13 +36,14 @@ mod linked {
             sheet: *const i64, sheet_len: usize, values: *const i64, values_len: usize,
             given: *const i64, given_len: usize, lists: *const i64, lists_len: usize,
             lengths: *const i64, lengths_len: usize, states: *mut i64, states_len: usize,
-            persona: i64, operation: i64, wanted: i64,
+            instances: *const i64, instances_len: usize, persona: i64, operation: i64, wanted: i64,
         ) -> Answer;
         pub fn fernpocket_run(
             sheet: *const i64, sheet_len: usize, values: *const i64, values_len: usize,
             given: *const i64, given_len: usize, lists: *const i64, lists_len: usize,
             lengths: *const i64, lengths_len: usize, states: *mut i64, states_len: usize,
-            flow: i64, wanted: *const i64, wanted_len: usize, path: *mut u16, path_len: usize,
+            instances: *const i64, instances_len: usize, flow: i64, wanted: *const i64, wanted_len: usize,
+            path: *mut u16, path_len: usize,
         ) -> Answer;
         pub fn fernpocket_first(
             sheet: *const i64, sheet_len: usize, flow: i64, path: *mut u16, path_len: usize,
@@ -141,6 +142,7 @@ pub fn operate(
     lists: &[i64],
     lengths: &[i64],
     states: &mut [i64],
+    instances: &[i64],
     persona: i64,
     operation: i64,
     wanted: i64,
@@ -159,6 +161,8 @@ pub fn operate(
         lengths.len(),
         states.as_mut_ptr(),
         states.len(),
+        instances.as_ptr(),
+        instances.len(),
         persona,
         operation,
         wanted
@@ -173,6 +177,7 @@ pub fn run(
     lists: &[i64],
     lengths: &[i64],
     states: &mut [i64],
+    instances: &[i64],
     flow: i64,
     wanted: &[i64],
     path: &mut [u16],
@@ -191,6 +196,8 @@ pub fn run(
         lengths.len(),
         states.as_mut_ptr(),
         states.len(),
+        instances.as_ptr(),
+        instances.len(),
         flow,
         wanted.as_ptr(),
         wanted.len(),

@@ -5,7 +5,7 @@ use std::fmt;
 
 /// Why a call was refused. Every lent slice still holds what it held.
 ///
-/// A case that has a place holds it: a record, a fact, an entity or a line, each counted from 0.
+/// A case that has a place holds it: a record, a fact, a record of the states, an entity or a line, each counted from 0.
 ///
 /// ```
 /// use fernpocket::{check, Refusal};
@@ -26,16 +26,19 @@ pub enum Refusal {
     Group,
     /// 3: this record is bad, and none before it is. In the sheet's text it is line place + 3, counted from 1.
     Record(usize),
-    /// 4: a slice has the wrong length; of the lists, the slots or the lengths are not as many as the sheet's facts want.
+    /// 4: a slice has the wrong length; of the lists, the slots or the lengths are not as many as the sheet's facts want; there
+    /// are more than 256 records of states, or not as many instance numbers as the sheet has entities.
     Length,
-    /// 5: there is no such persona, operation, outcome, flow, entity, state, rule or node.
+    /// 5: there is no such persona, operation, outcome, flow, entity, state, rule or node; or an instance that the operation,
+    /// or an operation of the flow, touches has no record.
     Missing,
     /// 6: this fact's given flag is not 0 or 1, or it is given with a value outside its min..max. A list: it is given with a
     /// length outside 0 to its largest, or with an element outside min..max.
     FactValue(usize),
     /// 7: this fact is not given and has no default. A list never has one.
     FactAbsent(usize),
-    /// 8: the state lent for this entity is not one of its states.
+    /// 8: this record of the states is not above the one before it, or its entity or state does not exist. Records are
+    /// counted from 0.
     State(usize),
     /// 9: the persona may not perform the operation.
     Persona,
@@ -108,7 +111,7 @@ impl Refusal {
         }
     }
 
-    /// The record, fact, entity or line; 0 where the refusal has no place.
+    /// The record, fact, record of the states, entity or line; 0 where the refusal has no place.
     pub fn place(self) -> usize {
         match self {
             Refusal::Record(place)
@@ -129,12 +132,16 @@ impl Refusal {
             Refusal::Group => "the counts of a group's owners do not add up to the table's count",
             Refusal::Record(_) => "this record is bad (in the text: line place + 3, counted from 1)",
             Refusal::Length => "a slice has the wrong length",
-            Refusal::Missing => "there is no such persona, operation, outcome, flow, entity, state, rule or node",
+            Refusal::Missing => {
+                "there is no such persona, operation, outcome, flow, entity, instance, state, rule or node"
+            }
             Refusal::FactValue(_) => {
                 "this fact is given wrongly: its flag, value, length or an element is out of range"
             }
             Refusal::FactAbsent(_) => "this fact is not given and has no default",
-            Refusal::State(_) => "the state of this entity is not one of its states",
+            Refusal::State(_) => {
+                "this record of the states is not above the one before it, or its entity or state does not exist"
+            }
             Refusal::Persona => "the persona may not perform the operation",
             Refusal::Precondition => "the operation's precondition is false",
             Refusal::NoOutcome { .. } => "this entity is in no state that the outcome starts from",

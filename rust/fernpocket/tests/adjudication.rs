@@ -1,6 +1,6 @@
 //! The claims contract of examples/adjudication.md through the crate: a claim is rejected though it could be approved.
 
-use fernpocket::{check, operate, read_text, run, Path, Refusal, Terminal};
+use fernpocket::{check, operate, read_text, run, Path, Refusal, States, Terminal};
 
 // The names of examples/adjudication.md.
 const ADJUDICATOR: usize = 0;
@@ -26,17 +26,17 @@ fn sheet() -> Vec<i64> {
 #[test]
 fn the_adjudicator_says_no() {
     let (sheet, eligible, given) = (sheet(), [1], [1]);
-    let decide = |states: &mut [i64], persona, wanted| {
-        operate(&sheet, &eligible, &given, &[], &[], states, persona, DECIDE_CLAIM, wanted)
+    let decide = |states: &mut States, persona, wanted| {
+        operate(&sheet, &eligible, &given, &[], &[], states, &[0], persona, DECIDE_CLAIM, wanted)
     };
-    let mut states = [IN_REVIEW];
+    let mut states = States::one_each(&[IN_REVIEW]);
     // Both outcomes start from review: nobody but the caller can say which.
     assert_eq!(decide(&mut states, ADJUDICATOR, None), Err(Refusal::ManyOutcomes));
     assert_eq!(decide(&mut states, CLAIMANT, Some(APPROVED)), Err(Refusal::Persona));
-    assert_eq!(states, [IN_REVIEW]);
+    assert_eq!(states.each(), Some(vec![IN_REVIEW]));
 
     assert_eq!(decide(&mut states, ADJUDICATOR, Some(REJECTED)), Ok(REJECTED));
-    assert_eq!(states, [IS_REJECTED]);
+    assert_eq!(states.each(), Some(vec![IS_REJECTED]));
 
     // It is decided: neither applies any more, and it is the claim that stands in the way.
     for wanted in [Some(APPROVED), Some(REJECTED), None] {
@@ -49,14 +49,14 @@ fn the_adjudicator_says_no() {
 fn and_so_in_a_run() {
     let (sheet, mut path) = (sheet(), [9; 3]);
     let mut decided = |wanted: &[Option<usize>]| {
-        let mut states = [IN_REVIEW];
-        let end = run(&sheet, &[1], &[1], &[], &[], &mut states, ADJUDICATE, wanted, &mut path);
-        (end, states)
+        let mut states = States::one_each(&[IN_REVIEW]);
+        let end = run(&sheet, &[1], &[1], &[], &[], &mut states, &[0], ADJUDICATE, wanted, &mut path);
+        (end, states.get(CLAIM, 0))
     };
     let ends = |terminal| Ok(Path { terminal, length: 1 });
-    assert_eq!(decided(&[Some(REJECTED)]), (ends(Terminal::Failure), [IS_REJECTED]));
-    assert_eq!(decided(&[None]), (ends(Terminal::Escalation), [IN_REVIEW]));
-    assert_eq!(decided(&[]), (Err(Refusal::Length), [IN_REVIEW]));
-    assert_eq!(decided(&[None; 300]), (Err(Refusal::Length), [IN_REVIEW]));
-    assert_eq!(decided(&[Some(2)]), (Err(Refusal::Missing), [IN_REVIEW]));
+    assert_eq!(decided(&[Some(REJECTED)]), (ends(Terminal::Failure), Some(IS_REJECTED)));
+    assert_eq!(decided(&[None]), (ends(Terminal::Escalation), Some(IN_REVIEW)));
+    assert_eq!(decided(&[]), (Err(Refusal::Length), Some(IN_REVIEW)));
+    assert_eq!(decided(&[None; 300]), (Err(Refusal::Length), Some(IN_REVIEW)));
+    assert_eq!(decided(&[Some(2)]), (Err(Refusal::Missing), Some(IN_REVIEW)));
 }

@@ -162,10 +162,62 @@ fn the_desk() {
     example_page(&desk, "escrow");
     example_page(&desk, "adjudication");
     example_page(&desk, "documents");
+    example_page(&desk, "parcels");
+    instances(&desk);
 
     let long = "0\t0\t0\t0\t0\t0\t0\t0\n".repeat(30_000);
     assert_eq!(desk.on(&long, &[]).0, 2);
     fs::remove_file(&desk.0).unwrap();
+}
+
+/// Words on instances, good ones and bad ones.
+fn instances(desk: &Desk) {
+    let parcels = fs::read_to_string(root().join("examples/parcels.txt")).unwrap();
+    let on = |line: &str| desk.on(&parcels, &line.split(' ').collect::<Vec<_>>());
+    let says = |line: &str, states: &str| assert_eq!(on(line), (0, format!("{states}\n"), String::new()), "{line}");
+    says("operate 0 0 1.12=0 0=1 1@12 1.11=2", "outcome 0\nstates: 0.0=0 1.11=2 1.12=1");
+    says("operate 0 0 1.0=0 0.0=1 0=1", "outcome 0\nstates: 1 1");
+    says("operate 0 2 0.4=0 0.3=1 0@4 0=1", "outcome 0\nstates: 0.3=1 0.4=2 1.0=0");
+    let ends = "1.-9223372036854775808=0 1.9223372036854775807=0";
+    says(
+        &format!("operate 0 0 {ends} 1@9223372036854775807 0=1"),
+        "outcome 0\nstates: 0.0=0 1.-9223372036854775808=0 1.9223372036854775807=1",
+    );
+    let refused = |line: &str, refusal: Refusal| {
+        let call = line.split(' ').next().unwrap();
+        assert_eq!(on(line), (1, String::new(), format!("desk: {call}: {refusal}\n")), "{line}");
+    };
+    refused("operate 0 0 1.11=0 0=1", Refusal::Missing);
+    refused("operate 0 0 1.0=4 0=1", Refusal::State(1));
+    refused("operate 0 0 1.0=0 2.0=0 0=1", Refusal::State(2));
+    refused("operate 0 0 1.0=0 1.0=0 0=1", Refusal::State(2));
+    refused("operate 0 0 1.0=-1 0=1", Refusal::State(1));
+    refused("run 0 1.11=0 0=1", Refusal::Missing);
+    refused("run 0 0.0=3 0=1", Refusal::State(0));
+    // As many records as there may be, that of the order among them; and more.
+    let many = |count: i64| (0..count).map(|number| format!(" 1.{number}=0")).collect::<String>();
+    assert_eq!(on(&format!("operate 0 0 0=1{}", many(255))).0, 0);
+    refused(&format!("operate 0 0 0=1{}", many(256)), Refusal::Length);
+    refused(&format!("operate 0 0 0=1{}", many(400)), Refusal::Length);
+    let bad = |line: &str, sentence: &str| {
+        let (status, answered, said) = on(line);
+        assert_eq!((status, &answered[..]), (2, ""), "{line}");
+        assert!(said.starts_with(sentence), "{line}: {said}");
+    };
+    let number = |what: &str, word: &str| format!("desk: {what} is \"{word}\": it must be a whole number, ");
+    bad("operate 0 0 parcel.1=0", &number("ENTITY", "parcel"));
+    bad("operate 0 0 .1=0", &number("ENTITY", ""));
+    bad("operate 0 0 1.=0", &number("INSTANCE", ""));
+    bad("operate 0 0 1.x=0", &number("INSTANCE", "x"));
+    bad("operate 0 0 1.9223372036854775808=0", &number("INSTANCE", "9223372036854775808"));
+    bad("operate 0 0 1.1=packed", &number("STATE", "packed"));
+    bad("operate 0 0 1.1=", &number("STATE", ""));
+    bad("operate 0 0 1.1", &number("OUTCOME", "1.1"));
+    bad("operate 0 0 0 1.1", "desk: \"1.1\" is not of the form FACT=VALUE\n");
+    bad("operate 0 0 @1", &number("ENTITY", ""));
+    bad("operate 0 0 1@", &number("INSTANCE", ""));
+    bad("operate 0 0 1@1 1@1", "desk: entity 1 is named twice\n");
+    bad("run 0 2@0", "desk: entity 2 is not in the sheet\n");
 }
 
 /// The sheet of docs/FORMAT.md, line by line, and what the page says comes out.

@@ -1,6 +1,6 @@
 //! The contracts of examples/documents.md and docs/FORMAT.md through the crate: "exists" and "for all" over lists.
 
-use fernpocket::{assemble, check, operate, read_text, run, verdicts, Path, Refusal, Terminal};
+use fernpocket::{assemble, check, operate, read_text, run, verdicts, Path, Refusal, States, Terminal};
 use std::fs;
 
 // The names of examples/documents.md.
@@ -53,13 +53,13 @@ fn the_clerk_looks_at_every_document() {
         assert_eq!(verdicts(&sheet, &values, &given, &lists, &lengths, &mut out), Ok(()));
         assert_eq!(out, verdict, "{documents:?}");
         for (operation, applies, after) in [(GRANT, granted, GRANTED), (RETURN_FILE, returned, RETURNED)] {
-            let mut states = [OPEN];
-            let answer = operate(&sheet, &values, &given, &lists, &lengths, &mut states, CLERK, operation, None);
-            let expected = if applies { (Ok(0), [after]) } else { (Err(Refusal::Precondition), [OPEN]) };
-            assert_eq!((answer, states), expected, "{documents:?}");
+            let mut states = States::one_each(&[OPEN]);
+            let answer = operate(&sheet, &values, &given, &lists, &lengths, &mut states, &[0], CLERK, operation, None);
+            let expected = if applies { (Ok(0), vec![after]) } else { (Err(Refusal::Precondition), vec![OPEN]) };
+            assert_eq!((answer, states.each().unwrap()), expected, "{documents:?}");
         }
-        let (mut states, mut path) = ([OPEN], [0; 3]);
-        let end = run(&sheet, &values, &given, &lists, &lengths, &mut states, REVIEW, &[None; 3], &mut path);
+        let (mut states, mut path) = (States::one_each(&[OPEN]), [0; 3]);
+        let end = run(&sheet, &values, &given, &lists, &lengths, &mut states, &[0], REVIEW, &[None; 3], &mut path);
         let terminal = match (granted, returned) {
             (true, _) => Terminal::Success,
             (_, true) => Terminal::Failure,

@@ -7,6 +7,7 @@
 mod check;
 mod facts;
 mod flow;
+mod instances;
 mod operation;
 mod path;
 mod report;
@@ -16,9 +17,11 @@ mod tree;
 
 use check::{check_sheet, Sheet};
 use facts::Lent;
+use instances::Named;
 use tables::below;
 
 pub use check::{M, MOST_LENGTH};
+pub use instances::{INSTANCE_WORDS, MOST_INSTANCES};
 pub use tables::{HEADER, LIMITS, RECORD};
 
 /// The four numbers of an answer.
@@ -151,7 +154,8 @@ pub fn verdicts(
     })
 }
 
-/// One operation. The value is the outcome: the wanted one, or for -1 the only one that is applicable.
+/// One operation on the named instance of each entity. The value is the outcome: the wanted one, or for -1 the only one that
+/// is applicable.
 pub fn operate(
     sheet: &[i64],
     values: &[i64],
@@ -159,6 +163,7 @@ pub fn operate(
     lists: &[i64],
     lengths: &[i64],
     states: &mut [i64],
+    instances: &[i64],
     persona: i64,
     operation: i64,
     wanted: i64,
@@ -167,12 +172,14 @@ pub fn operate(
         let sheet = check_sheet(sheet)?;
         let lent = Lent { values, given, lists, lengths };
         facts::judge_lengths(&sheet, lent)?;
-        judge_length(states.len(), sheet.entities.len())?;
+        instances::judge_lengths(&sheet, states, instances)?;
         let persona = exists(persona, sheet.personas)?;
         let operation = exists(operation, sheet.operations.len())?;
         let wanted = operation::wanted(&sheet, operation, wanted)?;
+        let named = Named::find(states, instances);
+        named.judge_read(&sheet, operation)?;
         let taken = facts::take(&sheet, lent)?;
-        operation::judge_states(&sheet, states)?;
+        instances::judge_records(&sheet, states)?;
         if !operation::permits(&sheet, operation, persona) {
             return Err(Refused::plain(9));
         }
@@ -180,11 +187,15 @@ pub fn operate(
         if !known.holds(operation::precondition(&sheet, operation)) {
             return Err(Refused::plain(10));
         }
-        operation::perform(&sheet, operation, wanted, states)
+        let mut present = named.take(states);
+        let outcome = operation::perform(&sheet, operation, wanted, &mut present)?;
+        named.put(&present, states);
+        Ok(outcome)
     })
 }
 
-/// One run of a flow, with a wanted outcome or -1 for each of its steps. The value is the terminal.
+/// One run of a flow on the named instance of each entity, with a wanted outcome or -1 for each of its steps. The value is
+/// the terminal.
 pub fn run(
     sheet: &[i64],
     values: &[i64],
@@ -192,6 +203,7 @@ pub fn run(
     lists: &[i64],
     lengths: &[i64],
     states: &mut [i64],
+    instances: &[i64],
     flow: i64,
     wanted: &[i64],
     path: &mut [u16],
@@ -200,14 +212,19 @@ pub fn run(
         let sheet = check_sheet(sheet)?;
         let lent = Lent { values, given, lists, lengths };
         facts::judge_lengths(&sheet, lent)?;
-        judge_length(states.len(), sheet.entities.len())?;
+        instances::judge_lengths(&sheet, states, instances)?;
         let flow = flow_and_buffer(&sheet, flow, path.len())?;
         judge_length(wanted.len(), sheet.group_of_flow(flow).len())?;
         let wanted = flow::wanted(&sheet, flow, wanted)?;
+        let named = Named::find(states, instances);
+        named.judge_read_by_flow(&sheet, flow)?;
         let taken = facts::take(&sheet, lent)?;
-        operation::judge_states(&sheet, states)?;
+        instances::judge_records(&sheet, states)?;
         let known = tree::World::new(&sheet, &taken);
-        Ok(flow::run(&sheet, &known, flow, &wanted, states, path))
+        let mut present = named.take(states);
+        let end = flow::run(&sheet, &known, flow, &wanted, &mut present, path);
+        named.put(&present, states);
+        Ok(end)
     })
 }
 

@@ -1,17 +1,8 @@
 //! Operations: persona, then precondition, then states.
 
 use crate::check::Sheet;
-use crate::tables::{below, Record};
+use crate::tables::Record;
 use crate::{exists, Refused};
-
-/// Refusal 8 at the first entity whose lent state is not among its states.
-pub fn judge_states(sheet: &Sheet, states: &[i64]) -> Result<(), Refused> {
-    let fault = |(entity, &state): (usize, &i64)| below(state, sheet.states_of(entity)).is_none();
-    match states.iter().enumerate().position(fault) {
-        None => Ok(()),
-        Some(entity) => Err(Refused::at(8, entity)),
-    }
-}
 
 /// Is the persona in the operation's mask?
 pub fn permits(sheet: &Sheet, operation: usize, persona: usize) -> bool {

@@ -70,6 +70,53 @@ fn desk(operations: &[&[i64]], effects: &[&[i64]]) -> Vec<i64> {
     sheet(3, [&[], &nodes, &[], &entities, &all, operations, effects, &[], &[], &[]])
 }
 
+/// The records of one instance of each entity, all numbered 0.
+fn one_each(states: &[i64]) -> Vec<i64> {
+    states.iter().enumerate().flat_map(|(entity, &state)| [entity as i64, 0, state]).collect()
+}
+
+/// The states of such records, which have stayed what they were but for these.
+fn back(records: &[i64], states: &mut [i64]) {
+    states.iter_mut().zip(records.chunks(3)).for_each(|(state, record)| *state = record[2]);
+    assert_eq!(records, one_each(states));
+}
+
+/// An operation on one instance of each entity, all numbered 0.
+fn operate_each(
+    sheet: &[i64],
+    values: &[i64],
+    given: &[i64],
+    lists: &[i64],
+    lengths: &[i64],
+    states: &mut [i64],
+    persona: i64,
+    operation: i64,
+    wanted: i64,
+) -> Answer {
+    let (mut records, instances) = (one_each(states), vec![0; states.len()]);
+    let answer = operate(sheet, values, given, lists, lengths, &mut records, &instances, persona, operation, wanted);
+    back(&records, states);
+    answer
+}
+
+/// A run on one instance of each entity, all numbered 0.
+fn run_each(
+    sheet: &[i64],
+    values: &[i64],
+    given: &[i64],
+    lists: &[i64],
+    lengths: &[i64],
+    states: &mut [i64],
+    flow: i64,
+    wanted: &[i64],
+    path: &mut [u16],
+) -> Answer {
+    let (mut records, instances) = (one_each(states), vec![0; states.len()]);
+    let answer = run(sheet, values, given, lists, lengths, &mut records, &instances, flow, wanted, path);
+    back(&records, states);
+    answer
+}
+
 fn listing(sheet: &[i64], flow: i64, room: usize) -> Vec<(i64, Vec<u16>)> {
     let mut paths = vec![];
     let mut buffer = vec![9999; room];
@@ -101,7 +148,7 @@ fn p2_to_p4_runs() {
     {
         let mut states = [state];
         let mut buffer = [7; 3];
-        assert_eq!(run(&sheet, &[1], &[given], &[], &[], &mut states, 0, &[-1, 0], &mut buffer), answer);
+        assert_eq!(run_each(&sheet, &[1], &[given], &[], &[], &mut states, 0, &[-1, 0], &mut buffer), answer);
         assert_eq!((buffer, states), (path, [after]));
     }
 }
@@ -132,11 +179,11 @@ fn p9_ranges() {
 #[test]
 fn p10_given_value() {
     let (sheet, mut states, mut path) = (whole(), [0], [5, 5]);
-    assert_eq!(run(&sheet, &[2], &[1], &[], &[], &mut states, 0, &[-1, -1], &mut path), refused(6, 0));
+    assert_eq!(run_each(&sheet, &[2], &[1], &[], &[], &mut states, 0, &[-1, -1], &mut path), refused(6, 0));
     assert_eq!((states, path), ([0], [5, 5]));
     assert_eq!(assemble(&sheet, &mut [2], &[1], &[], &[]), refused(6, 0));
     assert_eq!(verdicts(&sheet, &[2], &[1], &[], &[], &mut []), refused(6, 0));
-    assert_eq!(operate(&sheet, &[2], &[1], &[], &[], &mut states, 0, 0, -1), refused(6, 0));
+    assert_eq!(operate_each(&sheet, &[2], &[1], &[], &[], &mut states, 0, 0, -1), refused(6, 0));
 }
 
 #[test]
@@ -488,16 +535,16 @@ fn outcomes_are_chosen_and_applied_at_once() {
         ([0, 4, -1], 1, refused(8, 1), [0, 4, -1]),
     ] {
         let mut states = before;
-        assert_eq!(operate(&sheet, &[], &[], &[], &[], &mut states, 1, 0, wanted), answer, "{before:?} {wanted}");
+        assert_eq!(operate_each(&sheet, &[], &[], &[], &[], &mut states, 1, 0, wanted), answer, "{before:?} {wanted}");
         assert_eq!(states, after);
     }
     let mut states = [0, 2, 0];
-    assert_eq!(operate(&sheet, &[], &[], &[], &[], &mut states, 0, 0, -1), refused(9, 0));
-    assert_eq!(operate(&sheet, &[], &[], &[], &[], &mut [1, 2, 3], 0, 0, -1), refused(9, 0));
-    assert_eq!(operate(&sheet, &[], &[], &[], &[], &mut states, 3, 0, -1), refused(5, 0));
-    assert_eq!(operate(&sheet, &[], &[], &[], &[], &mut states, 1, 1, -1), refused(5, 0));
-    assert_eq!(operate(&sheet, &[1], &[], &[], &[], &mut states, 3, 1, 9), refused(4, 0));
-    assert_eq!(operate(&sheet, &[], &[], &[], &[], &mut [9, 9, 9], 0, 0, -1), refused(8, 0));
+    assert_eq!(operate_each(&sheet, &[], &[], &[], &[], &mut states, 0, 0, -1), refused(9, 0));
+    assert_eq!(operate_each(&sheet, &[], &[], &[], &[], &mut [1, 2, 3], 0, 0, -1), refused(9, 0));
+    assert_eq!(operate_each(&sheet, &[], &[], &[], &[], &mut states, 3, 0, -1), refused(5, 0));
+    assert_eq!(operate_each(&sheet, &[], &[], &[], &[], &mut states, 1, 1, -1), refused(5, 0));
+    assert_eq!(operate_each(&sheet, &[1], &[], &[], &[], &mut states, 3, 1, 9), refused(4, 0));
+    assert_eq!(operate_each(&sheet, &[], &[], &[], &[], &mut [9, 9, 9], 0, 0, -1), refused(8, 0));
 }
 
 #[test]
@@ -543,8 +590,8 @@ fn paths_and_buffers() {
     assert_eq!(first(&sheet, 0, &mut [0]), refused(4, 0));
     assert_eq!(first(&sheet, 1, &mut []), refused(5, 0));
     assert_eq!(next(&sheet, -1, &mut [0]), refused(5, 0));
-    assert_eq!(run(&sheet, &[], &[], &[], &[], &mut [0], 1, &[], &mut []), refused(4, 0));
-    assert_eq!(run(&sheet, &[0], &[0], &[], &[], &mut [0], 1, &[], &mut []), refused(5, 0));
+    assert_eq!(run_each(&sheet, &[], &[], &[], &[], &mut [0], 1, &[], &mut []), refused(4, 0));
+    assert_eq!(run_each(&sheet, &[0], &[0], &[], &[], &mut [0], 1, &[], &mut []), refused(5, 0));
     for (before, answer, after) in [
         ([0, 2, 77], good(0, 2), [0, 3, 0]),
         ([0, 4, 1], good(1, 1), [1, 0, 0]),
@@ -674,12 +721,12 @@ fn a_flow_uses_the_changes_of_its_earlier_steps() {
     // One outcome is applicable at a time, so that it makes no difference whether it is wanted. Step 2 is answered 9.
     for wanted in [[-1; 4], [0, 1, 0, 1], [0, 1, 1, 0]] {
         let (mut path, mut states) = ([9; 5], [0]);
-        assert_eq!(run(&sheet, &[], &[], &[], &[], &mut states, 0, &wanted, &mut path), good(2, 4));
+        assert_eq!(run_each(&sheet, &[], &[], &[], &[], &mut states, 0, &wanted, &mut path), good(2, 4));
         assert_eq!((path, states), ([0, 4, 8, 11, 0], [2]));
     }
     // Outcome 1 is wanted of the first step, which is answered 11 and takes its failure route; the next one is made.
     let (mut path, mut states) = ([9; 5], [0]);
-    assert_eq!(run(&sheet, &[], &[], &[], &[], &mut states, 0, &[1, 0, -1, -1], &mut path), good(1, 4));
+    assert_eq!(run_each(&sheet, &[], &[], &[], &[], &mut states, 0, &[1, 0, -1, -1], &mut path), good(1, 4));
     assert_eq!((path, states), ([2, 3, 8, 10, 0], [2]));
     assert_eq!(depth(&sheet, 0), good(4, 0));
     assert_eq!(listing(&sheet, 0, 4).len(), 9 * (2 + 3));
@@ -703,16 +750,16 @@ fn wanted_words_of_a_run() {
         (&[], refused(4, 0), [7, 7], 0),
     ] {
         let (mut states, mut buffer) = ([0], [7; 2]);
-        assert_eq!(run(&sheet, &[1], &[1], &[], &[], &mut states, 0, wanted, &mut buffer), answer, "{wanted:?}");
+        assert_eq!(run_each(&sheet, &[1], &[1], &[], &[], &mut states, 0, wanted, &mut buffer), answer, "{wanted:?}");
         assert_eq!((buffer, states), (path, [after]), "{wanted:?}");
     }
     // Step 1 is not reached, and its word is judged all the same; 5 comes before the facts and the states.
     let (mut states, mut buffer) = ([0], [7; 2]);
-    assert_eq!(run(&sheet, &[0], &[1], &[], &[], &mut states, 0, &[-1, 2], &mut buffer), refused(5, 0));
-    assert_eq!(run(&sheet, &[9], &[1], &[], &[], &mut [9], 0, &[-1, 2], &mut buffer), refused(5, 0));
-    assert_eq!(run(&sheet, &[9], &[1], &[], &[], &mut [9], 0, &[-1, 1], &mut buffer), refused(6, 0));
+    assert_eq!(run_each(&sheet, &[0], &[1], &[], &[], &mut states, 0, &[-1, 2], &mut buffer), refused(5, 0));
+    assert_eq!(run_each(&sheet, &[9], &[1], &[], &[], &mut [9], 0, &[-1, 2], &mut buffer), refused(5, 0));
+    assert_eq!(run_each(&sheet, &[9], &[1], &[], &[], &mut [9], 0, &[-1, 1], &mut buffer), refused(6, 0));
     // No such flow: its wanted words are not judged.
-    assert_eq!(run(&sheet, &[1], &[1], &[], &[], &mut states, 1, &[7; 9], &mut buffer), refused(5, 0));
+    assert_eq!(run_each(&sheet, &[1], &[1], &[], &[], &mut states, 1, &[7; 9], &mut buffer), refused(5, 0));
 }
 
 /// Facts of money and of durations, without a default.
@@ -1900,10 +1947,14 @@ fn operations_and_runs_over_lists() {
         ([0, 0, 0], 3, refused(10, 0), 0, good(2, 1), [1, 0]),
     ] {
         let mut states = [0];
-        assert_eq!(operate(&sheet, &[X, 9], &[1, 0], &lists, &[length], &mut states, 0, 0, -1), operated, "{lists:?}");
+        assert_eq!(
+            operate_each(&sheet, &[X, 9], &[1, 0], &lists, &[length], &mut states, 0, 0, -1),
+            operated,
+            "{lists:?}"
+        );
         assert_eq!(states, [after]);
         let (mut states, mut buffer) = ([0], [7; 2]);
-        let answer = run(&sheet, &[X, 9], &[1, 0], &lists, &[length], &mut states, 0, &[-1, -1], &mut buffer);
+        let answer = run_each(&sheet, &[X, 9], &[1, 0], &lists, &[length], &mut states, 0, &[-1, -1], &mut buffer);
         assert_eq!((answer, buffer), (ran, path), "{lists:?} {length}");
         assert_eq!(states, [(ran.value == 0) as i64]);
     }
@@ -1928,7 +1979,7 @@ fn operations_and_runs_over_lists() {
         let mut states = [state];
         let lists = &[1; 4][..slots];
         assert_eq!(
-            operate(&sheet, &[0, 0], &given, lists, lengths, &mut states, persona, operation, -1),
+            operate_each(&sheet, &[0, 0], &given, lists, lengths, &mut states, persona, operation, -1),
             refusal,
             "{slots} {lengths:?} {given:?}"
         );
@@ -1936,8 +1987,301 @@ fn operations_and_runs_over_lists() {
         let flow = if refusal.refusal == 5 { 1 } else { 0 };
         if refusal.refusal <= 8 && refusal.refusal > 0 {
             let (mut states, mut buffer) = ([state], [7; 2]);
-            let answer = run(&sheet, &[0, 0], &given, lists, lengths, &mut states, flow, &[-1, -1], &mut buffer);
+            let answer = run_each(&sheet, &[0, 0], &given, lists, lengths, &mut states, flow, &[-1, -1], &mut buffer);
             assert_eq!((answer, states, buffer), (refusal, [state], [7; 2]), "{slots} {lengths:?} {given:?}");
         }
+    }
+}
+
+/// Records as words.
+fn lent(records: &[[i64; 3]]) -> Vec<i64> {
+    records.iter().flatten().copied().collect()
+}
+
+/// Orders (entity 0, states 0 to 2), parcels (1, 0 to 3) and invoices (2, 0 and 1), and a fact. Operation 0, by persona 0 if
+/// the fact holds: a parcel from 0 to 1. Operation 1, by both: outcome 0 a parcel from 1 to 2, outcome 1 a parcel from 1 to 3 and an
+/// order from 0 to 1. Operation 2, by persona 1: an invoice from 0 to 1. Flow 0: operation 0, then 1. Flow 1: a branch on the
+/// fact, if it holds operation 2; no route leads to its last step, of operation 0. Flow 2: a branch on the fact.
+fn parcels() -> Vec<i64> {
+    let sheet = sheet(
+        2,
+        [
+            &[&[0, 0, 1]],
+            &[&[3, 0], &[1, 1], &[1, 1], &[3, 0], &[3, 0]],
+            &[],
+            &[&[3, 0], &[4, 0], &[2, 0]],
+            &[&[0, 0, 1], &[1, 0, 1], &[1, 1, 2], &[1, 1, 3], &[2, 0, 1]],
+            &[&[1, 0, 0, 1, 1], &[3, 1, 1, 3, 2], &[2, 2, 4, 1, 1]],
+            &[&[1, 0, 1, 0], &[1, 1, 2, 0], &[1, 1, 3, 1], &[0, 0, 1, 1], &[2, 0, 1, 0]],
+            &[&[0, 2], &[2, 3], &[5, 1]],
+            &[
+                &[0, 0, 0, 0, 2],
+                &[0, 1, 1, 2, 3],
+                &[1, 3, 0, 5, 2],
+                &[0, 2, 1, 7, 2],
+                &[0, 0, 0, 9, 2],
+                &[1, 4, 0, 11, 2],
+            ],
+            &[
+                &[0, 1],
+                &[1, 1],
+                &[1, 0],
+                &[1, 2],
+                &[1, 1],
+                &[0, 3],
+                &[1, 1],
+                &[1, 0],
+                &[1, 1],
+                &[1, 0],
+                &[1, 1],
+                &[1, 0],
+                &[1, 1],
+            ],
+        ],
+    );
+    assert_eq!(check(&sheet), good(0, 0));
+    sheet
+}
+
+const BOTH: [[i64; 3]; 6] = [[0, 7, 0], [0, 8, 1], [1, -3, 0], [1, 0, 1], [1, 5, 1], [2, 0, 0]];
+
+#[test]
+fn the_named_instances_are_read_and_moved() {
+    let sheet = parcels();
+    for (instances, operation, wanted, answer, moved) in [
+        // Of the parcels the named one goes from 0 to 1; the others may be in any state.
+        ([7, -3, 0], 0, -1, good(0, 0), &[(2, 1)][..]),
+        ([7, 0, 0], 0, -1, refused(11, 1), &[]),
+        ([7, 5, 0], 0, -1, refused(11, 1), &[]),
+        // Of parcels and orders one each.
+        ([7, 0, 0], 1, 0, good(0, 0), &[(3, 2)]),
+        ([7, 5, 0], 1, 0, good(0, 0), &[(4, 2)]),
+        ([7, 0, 0], 1, 1, good(1, 0), &[(0, 1), (3, 3)]),
+        ([7, 5, 0], 1, 1, good(1, 0), &[(0, 1), (4, 3)]),
+        ([7, 5, 0], 1, -1, refused(16, 0), &[]),
+        ([8, 5, 0], 1, -1, good(0, 0), &[(4, 2)]),
+        ([8, 5, 0], 1, 1, refused(11, 0), &[]),
+        // Place is the entity, not the record.
+        ([8, -3, 0], 1, 0, refused(11, 1), &[]),
+        // What is not read need not be there: orders and invoices of operation 0, invoices of operation 1.
+        ([9, -3, 9], 0, -1, good(0, 0), &[(2, 1)]),
+        ([7, 0, 9], 1, 0, good(0, 0), &[(3, 2)]),
+        // What is read has to: the order too, whichever outcome is wanted.
+        ([7, 1, 0], 0, -1, refused(5, 0), &[]),
+        ([7, 8, 0], 0, -1, refused(5, 0), &[]),
+        ([0, 7, 0], 0, -1, refused(5, 0), &[]),
+        ([9, 0, 0], 1, 0, refused(5, 0), &[]),
+        ([9, 0, 0], 1, 1, refused(5, 0), &[]),
+        ([9, 0, 0], 1, -1, refused(5, 0), &[]),
+        ([i64::MIN, 0, 0], 1, -1, refused(5, 0), &[]),
+    ] {
+        let mut states = lent(&BOTH);
+        let found = operate(&sheet, &[1], &[1], &[], &[], &mut states, &instances, 0, operation, wanted);
+        let mut expected = BOTH;
+        moved.iter().for_each(|&(record, state)| expected[record][2] = state);
+        assert_eq!((found, states), (answer, lent(&expected)), "{instances:?} {operation} {wanted}");
+    }
+    // Refused 9 and 10, likewise.
+    let mut states = lent(&BOTH);
+    assert_eq!(operate(&sheet, &[1], &[1], &[], &[], &mut states, &[7, -3, 0], 1, 0, -1), refused(9, 0));
+    assert_eq!(operate(&sheet, &[0], &[1], &[], &[], &mut states, &[7, -3, 0], 0, 0, -1), refused(10, 0));
+    assert_eq!(states, lent(&BOTH));
+}
+
+#[test]
+fn a_run_reads_what_all_its_steps_touch() {
+    let sheet = parcels();
+    for (flow, fact, instances, wanted, answer, path, moved) in [
+        // Both steps move parcel -3; the second may move the order.
+        (0, 1, [7, -3, 0], &[-1, 0][..], good(0, 2), [0, 2, 0], &[(2, 2)][..]),
+        (0, 1, [7, -3, 0], &[-1, 1], good(2, 2), [0, 3, 0], &[(0, 1), (2, 3)]),
+        (0, 1, [7, -3, 0], &[-1, -1], good(1, 2), [0, 4, 0], &[(2, 1)]),
+        (0, 1, [8, -3, 0], &[-1, -1], good(0, 2), [0, 2, 0], &[(2, 2)]),
+        (0, 1, [7, 0, 9], &[-1, 0], good(1, 1), [1, 0, 0], &[]),
+        // The order is read where outcome 0 is wanted, and where the step is not reached.
+        (0, 1, [9, -3, 0], &[-1, 0], refused(5, 0), [6; 3], &[]),
+        (0, 0, [9, -3, 0], &[-1, 0], refused(5, 0), [6; 3], &[]),
+        (0, 0, [7, -3, 0], &[-1, 0], good(1, 1), [1, 0, 0], &[]),
+        // Of the second flow parcels are read, though no route leads to that step.
+        (1, 1, [9, 0, 0], &[-1; 3], good(0, 2), [5, 7, 0], &[(5, 1)]),
+        (1, 1, [9, 9, 0], &[-1; 3], refused(5, 0), [6; 3], &[]),
+        (1, 0, [9, 9, 0], &[-1; 3], refused(5, 0), [6; 3], &[]),
+        (1, 0, [9, 0, 9], &[-1; 3], refused(5, 0), [6; 3], &[]),
+        (1, 0, [9, 0, 0], &[-1; 3], good(1, 1), [6, 0, 0], &[]),
+        // A branch reads none.
+        (2, 1, [9, 9, 9], &[-1], good(0, 1), [11, 0, 0], &[]),
+    ] {
+        let (mut states, mut buffer) = (lent(&BOTH), [6; 3]);
+        let found = run(&sheet, &[fact], &[1], &[], &[], &mut states, &instances, flow, wanted, &mut buffer);
+        let mut expected = BOTH;
+        moved.iter().for_each(|&(record, state)| expected[record][2] = state);
+        assert_eq!((found, states, buffer), (answer, lent(&expected), path), "{flow} {fact} {instances:?} {wanted:?}");
+    }
+    // Without any record.
+    assert_eq!(run(&sheet, &[0], &[1], &[], &[], &mut [], &[0; 3], 2, &[-1], &mut [9]), good(1, 1));
+    assert_eq!(run(&sheet, &[0], &[1], &[], &[], &mut [], &[0; 3], 1, &[-1; 3], &mut [9; 3]), refused(5, 0));
+    assert_eq!(run(&sheet, &[0], &[1], &[], &[], &mut [], &[0; 2], 2, &[-1], &mut [9]), refused(4, 0));
+}
+
+#[test]
+fn lengths_and_order_of_records() {
+    let sheet = parcels();
+    // Operation 0, on parcel 0.
+    let call = |states: &[i64], instances: &[i64]| {
+        let mut after = states.to_vec();
+        let answer = operate(&sheet, &[1], &[1], &[], &[], &mut after, instances, 0, 0, -1);
+        assert!(answer.refusal == 0 || after == states);
+        let mut path = [0; 2];
+        let ran = run(&sheet, &[1], &[1], &[], &[], &mut states.to_vec(), instances, 2, &[-1], &mut path);
+        // A branch reads nothing, so it is never refused 5.
+        assert_eq!(ran, if [0, 5].contains(&answer.refusal) { good(0, 1) } else { answer }, "{states:?}");
+        answer
+    };
+    // Of any order of instances, the words of an i64 in signed order.
+    let sorted = [i64::MIN, i64::MIN + 1, -1 << 32, -1, 0, 1, 1 << 32, i64::MAX];
+    for (low, &one) in sorted.iter().enumerate() {
+        for (high, &other) in sorted.iter().enumerate() {
+            for named in [one, other] {
+                let expected = if low < high { good(0, 0) } else { refused(8, 1) };
+                assert_eq!(call(&lent(&[[1, one, 0], [1, other, 0]]), &[0, named, 0]), expected, "{one} {other}");
+                // The instances of two entities have nothing to do with each other.
+                assert_eq!(call(&lent(&[[0, one, 0], [1, named, 0], [2, other, 0]]), &[0, named, 0]), good(0, 0));
+            }
+            assert_eq!(call(&lent(&[[1, one, 0], [0, other, 0]]), &[0, one, 0]), refused(8, 1));
+        }
+    }
+    // Numbers of which 32 bits are the same are not.
+    for (one, other) in [(0, 1 << 32), (-1, (1 << 32) - 1), (5, (1 << 32) + 5), (0, i64::MIN), (-1, i64::MAX)] {
+        assert_eq!(call(&lent(&[[1, one, 0]]), &[0, other, 0]), refused(5, 0), "{one} {other}");
+        assert_eq!(call(&lent(&[[1, other, 0]]), &[0, one, 0]), refused(5, 0), "{one} {other}");
+    }
+    // As many records as may be.
+    let many = |count: i64| lent(&(0..count).map(|number| [number / 100, number % 100, 0]).collect::<Vec<_>>());
+    assert_eq!(call(&many(256), &[0, 99, 0]), good(0, 0));
+    assert_eq!(call(&many(256), &[0, 100, 0]), refused(5, 0));
+    assert_eq!(call(&many(257), &[0, 99, 0]), refused(4, 0));
+    for length in 765..775 {
+        let expected = if length % 3 == 0 && length <= 768 { good(0, 0) } else { refused(4, 0) };
+        assert_eq!(call(&many(260)[..length], &[0, 99, 0]), expected, "{length}");
+    }
+    for length in 0..12 {
+        let expected = if length == 3 { good(0, 0) } else { refused(4, 0) };
+        assert_eq!(call(&many(256), &vec![99; length]), expected, "{length}");
+    }
+    for place in [0, 1, 100, 150, 255] {
+        for (word, wrong) in [(0, 3), (0, -1), (0, i64::MAX), (2, 4), (2, -1), (2, i64::MIN)] {
+            let mut states = many(256);
+            states[3 * place + word] = wrong;
+            assert_eq!(call(&states, &[0, 99, 0]), refused(8, place as i64), "{place} {word} {wrong}");
+        }
+    }
+}
+
+#[test]
+fn every_few_records_by_the_definition() {
+    // Entity 0 has one state more than entity 1. Operation 0 takes entity 0 from 0 to 1; operation 1 in one outcome entity 1 from 0
+    // to 0, in the other entity 0 from 1 to 0.
+    let sheet = sheet(
+        1,
+        [
+            &[],
+            &[&[1, 1], &[1, 1]],
+            &[],
+            &[&[2, 0], &[1, 0]],
+            &[&[0, 0, 1], &[0, 1, 0], &[1, 0, 0]],
+            &[&[1, 0, 0, 1, 1], &[1, 1, 1, 2, 2]],
+            &[&[0, 0, 1, 0], &[1, 0, 0, 0], &[0, 1, 0, 1]],
+            &[],
+            &[],
+            &[],
+        ],
+    );
+    assert_eq!(check(&sheet), good(0, 0));
+    let words: Vec<[i64; 3]> =
+        (0..36).map(|code| [code % 3, code / 3 % 3 - 1, code / 9 - 1]).filter(|record| record[2] < 2).collect();
+    let mut reached = [0; 17];
+    let mut compare = |records: &[[i64; 3]]| {
+        for (instances, operation) in (0..18).map(|code| ([code % 3 - 1, code / 3 % 3 - 1], code / 9)) {
+            let key = |record: &[i64; 3]| (record[0], record[1]);
+            let there = |entity: usize| records.iter().any(|record| key(record) == (entity as i64, instances[entity]));
+            // As many of the records as are sorted, without repeats, and in range.
+            let good_start = |count: &usize| {
+                let mut keys: Vec<_> = records[..*count].iter().map(key).collect();
+                keys.sort();
+                keys.dedup();
+                let in_range = |record: &[i64; 3]| match *record {
+                    [0, _, state] => state == 0 || state == 1,
+                    [entity, _, state] => entity == 1 && state == 0,
+                };
+                keys == records[..*count].iter().map(key).collect::<Vec<_>>() && records[..*count].iter().all(in_range)
+            };
+            let sound = (0..=records.len()).take_while(good_start).last().unwrap();
+            let mut expected = records.to_vec();
+            let answer = if !there(0) || (operation == 1 && !there(1)) {
+                refused(5, 0)
+            } else if sound < records.len() {
+                refused(8, sound as i64)
+            } else {
+                let own = expected.iter_mut().find(|record| key(record) == (0, instances[0])).unwrap();
+                match (operation, own[2]) {
+                    (0, 0) => {
+                        own[2] = 1;
+                        good(0, 0)
+                    }
+                    (0, _) => refused(11, 0),
+                    // Entity 1 is in 0 and stays there.
+                    (_, 0) => good(0, 0),
+                    _ => refused(16, 0),
+                }
+            };
+            let mut states = lent(records);
+            let found = operate(&sheet, &[], &[], &[], &[], &mut states, &instances, 0, operation, -1);
+            assert_eq!((found, states), (answer, lent(&expected)), "{records:?} {instances:?} {operation}");
+            reached[found.refusal as usize] += 1;
+        }
+    };
+    compare(&[]);
+    for &one in &words {
+        compare(&[one]);
+        for &other in &words {
+            compare(&[one, other]);
+            words.iter().for_each(|&third| compare(&[one, other, third]));
+        }
+    }
+    assert!([0, 5, 8, 11, 16].into_iter().all(|refusal| reached[refusal] > 50), "{reached:?}");
+}
+
+#[test]
+fn the_order_of_refusals_with_records() {
+    let sheet = parcels();
+    let (sound, unsorted) = (lent(&BOTH), lent(&[[1, 5, 0], [1, 0, 0], [0, 7, 0]]));
+    for (states, instances, value, given, persona, operation, wanted, answer) in [
+        (&sound[1..], &[7, 1, 0][..], 2, 1, 9, 9, 9, refused(4, 0)),
+        (&sound, &[7, 1], 2, 1, 9, 9, 9, refused(4, 0)),
+        (&unsorted, &[7, 1, 0], 2, 1, 1, 0, -1, refused(5, 0)),
+        (&unsorted, &[7, 0, 0], 2, 1, 1, 0, 1, refused(5, 0)),
+        (&unsorted, &[7, 0, 0], 2, 1, 1, 0, 0, refused(6, 0)),
+        (&unsorted, &[7, 0, 0], 2, 0, 1, 0, 0, refused(7, 0)),
+        (&unsorted, &[7, 0, 0], 0, 1, 1, 0, 0, refused(8, 1)),
+        (&unsorted, &[7, 5, 0], 0, 1, 1, 0, 0, refused(8, 1)),
+        // Found though it stands last, after the record at fault.
+        (&unsorted, &[7, 0, 0], 1, 1, 0, 1, 0, refused(8, 1)),
+        (&unsorted, &[8, 0, 0], 1, 1, 0, 1, 0, refused(5, 0)),
+        (&sound, &[7, 0, 0], 0, 1, 1, 0, 0, refused(9, 0)),
+        (&sound, &[7, 0, 0], 0, 1, 0, 0, 0, refused(10, 0)),
+        (&sound, &[7, 0, 0], 1, 1, 0, 0, 0, refused(11, 1)),
+        (&sound, &[7, 0, 0], 1, 1, 0, 1, -1, refused(16, 0)),
+    ] {
+        let mut after = states.to_vec();
+        let found = operate(&sheet, &[value], &[given], &[], &[], &mut after, instances, persona, operation, wanted);
+        assert_eq!((found, &after[..]), (answer, states), "{states:?} {instances:?}");
+        if persona == 0 || answer.refusal > 8 {
+            continue;
+        }
+        // A run of flow 0, which does not exist where the operation does not.
+        let (mut after, mut path) = (states.to_vec(), [6; 2]);
+        let flow = if operation == 9 || wanted == 1 { 3 } else { 0 };
+        let found = run(&sheet, &[value], &[given], &[], &[], &mut after, instances, flow, &[-1, 0], &mut path);
+        assert_eq!((found, &after[..], path), (answer, states, [6; 2]), "{states:?} {instances:?}");
     }
 }

@@ -25,8 +25,8 @@ add-result c =
     omega (
       arith,
       at-first-route .first-route .ensures,
-      branch-two (at-start .pre .0) (at-start .pre .1),
-      routes-end (at-start .pre .0),
+      branch-two (at-start .pre .0 .accepted) _ (at-start .pre .0 .exists) (at-start .pre .1),
+      routes-end (at-start .pre .0 .accepted) _ (at-start .pre .0 .exists),
       at-start .pre .0 .accepted .sized .limits .routes,
     )
 

@@ -1,0 +1,9 @@
+pub mod Judging
+pub mod Naming
+pub mod Order
+pub mod Gathering
+pub mod Covering
+pub mod Scattering
+pub mod Unchanged
+pub mod Reading
+pub mod Lengths

@@ -1,0 +1,3 @@
+pub mod Records
+pub mod Named
+pub mod Inner
