@@ -22,8 +22,8 @@ def own(crates):
     return re.compile(r"Rattle\.(%s)\b" % "|".join(crates))
 
 
-def turn(text, crates, use_lines=True):
-    """The text with each name of the table in its new spelling."""
+def turn(text, crates, code=False):
+    """The text with each name of the table in its new spelling. In Rattle code a name that may be a function's stays: one in snake case already."""
     ours = own(crates)
     foreign = set()
     for m in USE.finditer(text):
@@ -33,7 +33,7 @@ def turn(text, crates, use_lines=True):
     def line(l, is_use):
         def word(m):
             w = m[0]
-            if w not in NEW or w in foreign:
+            if w not in NEW or w in foreign or code and re.fullmatch("[a-z0-9_]+", w):
                 return w
             behind = m.start() > 0 and l[m.start() - 1] == "."
             if behind and not is_use and w not in FIELDS:
@@ -62,8 +62,10 @@ def main():
             if kind not in (".antt", ".rt", ".edit", ".md", ".rs"):
                 continue
             text = open(path, encoding="utf-8").read()
-            if kind in (".antt", ".edit", ".rt"):
+            if kind == ".antt":
                 turned = turn(text, crates)
+            elif kind in (".edit", ".rt"):
+                turned = turn(text, crates, code=True)
             elif kind == ".md" or "tests" in folder:
                 turned = spans(text, crates)
             else:

@@ -1,11 +1,13 @@
 // The refusals of documents 01 and 02, each with its number and place, and the four numbers that a C caller is answered.
+#![tactic(auto)]
+
 ghost use Rattle.std.specs.Prelude.{◌≡◌, pos, ◌<◌, ◌^◌};
 ghost use Rattle.answer.specs.Number.{number, place, refused_answer, done_answer};
 ghost use Rattle.answer.specs.Answers.{status_answer, count_answer, counted_answer};
 ghost use Rattle.answer.specs.Inner.{SmallStatus, SmallCount, SmallCounted};
 
 // Every refusal, by what is wrong. A case that has a place holds it.
-#[derive(Drop)]
+#[derive(Clone, Copy)]
 pub enum Refusal {
     Header,
     Group,
@@ -26,21 +28,21 @@ pub enum Refusal {
 }
 
 // The answer of a call that has no number to give.
-#[derive(Drop)]
+#[derive(Clone, Copy)]
 pub enum Status {
     Done,
     Refused(Refusal),
 }
 
 // The answer of a call that gives one number: an outcome, a count, a mask, 1 for yes and 0 for no.
-#[derive(Drop)]
+#[derive(Clone, Copy)]
 pub enum Count {
     Is(usize),
     Refused(Refusal),
 }
 
 // The answer of a call that gives two numbers: S2's mask and its scans; a path's terminal and its length.
-#[derive(Drop)]
+#[derive(Clone, Copy)]
 pub enum Counted {
     Is { value: usize, count: usize },
     Refused(Refusal),
@@ -48,7 +50,7 @@ pub enum Counted {
 
 // What a C caller is answered: include/fernpocket.h says what each number is.
 #[repr(C)]
-#[derive(Drop)]
+#[derive(Clone, Copy)]
 pub struct Answer {
     pub refusal: i64,
     pub place: i64,

@@ -1,4 +1,6 @@
 // One operation by a persona, over fixed facts and verdicts: refusals 9, 10, 11 and 16, or its outcome and the states afterwards.
+#![tactic(auto)]
+
 ghost use Rattle.std.specs.Prelude.{◌≡◌, ◌&&◌, ◌<◌};
 ghost use Rattle.records.specs.Accepted.{Accepted};
 ghost use Rattle.operation.specs.Mask.{allowed};
@@ -38,7 +40,7 @@ pub fn precondition_holds(
     ensures { result ≡ truth s.now h (held s.now facts.now lists.now) verdicts.now (precondition s.now h o.0) }
 {
     let node = precondition(s, h, o);
-    is_true_lem(s, h, facts, lists, verdicts, node)
+    is_true(s, h, facts, lists, verdicts, node)
 }
 
 // The same, but false where the persona is not allowed: then the precondition is not worked out.

@@ -1,6 +1,8 @@
 // Runs the calls of the script in the file stdin, and writes a line for each: the call's number, the answer, and every lent buffer but lists,
 // lengths, instances and the wanted words of a run, which are only read.
 // A call: the number of what is called, its numbers, its buffers. 0, with the sheet as a buffer, sets the sheet of the calls after it.
+#![tactic(auto)]
+
 mod calls;
 mod figures;
 mod walks;

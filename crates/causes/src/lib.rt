@@ -1,4 +1,6 @@
 // Reports S3a and S4: what a persona's operations can do to an entity.
+#![tactic(auto)]
+
 ghost use Rattle.std.specs.Prelude.{◌≡◌, ◌<◌};
 ghost use Rattle.records.specs.Accepted.{Accepted};
 ghost use Rattle.causes.specs.Causes.{some_effect, can_be_true, admissible, can_cause};

@@ -1,4 +1,6 @@
 // One word of a sheet's text: its decimal is read and written, with the byte that ends it.
+#![tactic(auto)]
+
 ghost use Rattle.std.specs.Prelude.{◌≡◌, true, ◌++◌, ◌∷◌, [], ◌+◌, ◌<◌, ◌≤◌, nat_abs, length, drop};
 ghost use Rattle.std.proofs.lemmas.List.Edits.{sets};
 ghost use Rattle.decimal.specs.Decimal.{M, digits, sign, decimal, has_text, is_digit};
@@ -9,21 +11,21 @@ ghost use Rattle.decimal.specs.Width.{reached};
 const LARGEST: usize = 1_000_000_000;
 
 // Digits that follow each other: the number they say, and the place after them.
-#[derive(Drop)]
+#[derive(Clone, Copy)]
 pub struct Run {
     pub magnitude: usize,
     pub next: usize,
 }
 
 // A number of at most M with no leading zero, and the place after it.
-#[derive(Drop)]
+#[derive(Clone, Copy)]
 pub enum Number {
     Is { magnitude: usize, next: usize },
     Bad,
 }
 
 // A word, and the place after it.
-#[derive(Drop)]
+#[derive(Clone, Copy)]
 pub enum Word {
     Is { value: i64, next: usize },
     Bad,

@@ -1,4 +1,6 @@
 // S7: the longest path of a flow, by one pass over the routes, from the last step to the first.
+#![tactic(auto)]
+
 ghost use Rattle.std.specs.Prelude.{◌≡◌, ◌<◌};
 ghost use Rattle.layout.specs.Sized.{Sized};
 ghost use Rattle.records.specs.Accepted.{Accepted};

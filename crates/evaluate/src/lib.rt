@@ -1,4 +1,6 @@
 // The calls on facts and one operation, for any input: each climbs the ladder of refusals, then does its work.
+#![tactic(auto)]
+
 ghost use Rattle.std.specs.Prelude.{◌≡◌, true, ◌&&◌, length};
 ghost use Rattle.signed.specs.Words.{num};
 ghost use Rattle.layout.specs.declared.Header.{Header};

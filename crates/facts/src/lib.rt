@@ -1,4 +1,6 @@
 // The facts that a caller lends: their faults, and the values that stand after the defaults.
+#![tactic(auto)]
+
 ghost use Rattle.std.specs.Prelude.{◌≡◌, ◌+◌, ◌*◌, ◌≤◌, ◌<◌, ℤ, pos, length, get_or, leb, true, ◌&&◌, List};
 ghost use Rattle.signed.specs.Words.{eq_z, num as num_of};
 ghost use Rattle.words.specs.Record.{number as number_of};
@@ -17,7 +19,7 @@ use signed::{num, same, to_word, within};
 use words::{number, word};
 
 // What the facts passed so far use of the lent lists: so many slots, and so many lengths.
-#[derive(Drop)]
+#[derive(Clone, Copy)]
 pub struct Used {
     pub slots: usize,
     pub lengths: usize,

@@ -1,4 +1,6 @@
 // The public calls, as C links them: include/fernpocket.h says what each answers.
+#![tactic(auto)]
+
 ghost use Rattle.std.specs.Prelude.{◌≡◌, length};
 ghost use Rattle.answer.specs.Answers.{status_answer, count_answer, counted_answer};
 ghost use Rattle.records.specs.Accept.{checked};

@@ -1,4 +1,6 @@
 // The calls on flows, for any input: first, next and run climb the ladder of refusals, then do their work.
+#![tactic(auto)]
+
 ghost use Rattle.std.specs.Prelude.{◌≡◌, length, true, ◌&&◌};
 ghost use Rattle.signed.specs.Words.{num};
 ghost use Rattle.layout.specs.declared.Header.{Header};

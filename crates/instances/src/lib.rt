@@ -1,5 +1,7 @@
 // Many instances of one entity: the lent records judged, the state of each entity's named instance taken out of them, and what comes of it
 // written back.
+#![tactic(auto)]
+
 ghost use Rattle.std.specs.Prelude.{◌≡◌, false, ◌+◌, ◌*◌, ◌<◌, get_or};
 ghost use Rattle.layout.specs.Sized.{Sized};
 ghost use Rattle.records.specs.Accepted.{Accepted};

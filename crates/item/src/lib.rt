@@ -1,4 +1,6 @@
 // A type with a range of values, and the range of each operator from those of its operands.
+#![tactic(auto)]
+
 ghost use Rattle.std.specs.Prelude.{◌≡◌, true, cond, pos, ◌*ℤ◌};
 ghost use Rattle.signed.specs.Words.{bounded};
 ghost use Rattle.item.specs.Units as units;
@@ -8,7 +10,7 @@ ghost use Rattle.item.specs.Inner.{Small};
 use signed::{bounded, can_fail, can_hold, larger, minus, plus, smaller, times, to_word};
 
 // A type by its number, and the values from `low` to `high`, both included.
-#[derive(Drop)]
+#[derive(Clone, Copy)]
 pub struct Item {
     pub sort: usize,
     pub low: i64,

@@ -1,5 +1,7 @@
 // One node by its kind, apart from the checker's scan: its value and its range from those of its children, one arm for each of the
 // kinds 0 to 17, as its row in node/specs/Rows.antt says.
+#![tactic(auto)]
+
 ghost use Rattle.std.specs.Prelude.{◌≡◌, true, false, not, ◌&&◌, ◌||◌, ℕ, ◌+◌, ◌%◌, ◌≤◌, ℤ, pos, ◌+ℤ◌, ◌-ℤ◌, ◌*ℤ◌, List, get_or};
 ghost use Rattle.signed.specs.Words.{num as wordNumber};
 ghost use Rattle.signed.specs.Compare.{holds as comparison};

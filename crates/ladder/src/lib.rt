@@ -1,4 +1,6 @@
 // The ladder of refusals 1 to 8, one function for each rung: every public call that takes a sheet climbs it in this order.
+#![tactic(auto)]
+
 ghost use Rattle.std.specs.Prelude.{◌≡◌, true};
 ghost use Rattle.records.specs.Accepted.{Accepted};
 ghost use Rattle.answer.specs.declared.Status.TheVariants.{Done};
@@ -16,7 +18,7 @@ use sheet::check;
 use signed::num;
 
 // Where a climb stops: past every rung, under the header of an accepted sheet, or at a refusal.
-#[derive(Drop)]
+#[derive(Clone, Copy)]
 pub enum Climbed {
     At(Header),
     Stopped(Refusal),

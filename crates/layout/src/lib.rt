@@ -1,4 +1,6 @@
 // The header of a sheet, where its tables start, and refusals 1 and 2.
+#![tactic(auto)]
+
 ghost use Rattle.std.specs.Prelude.{◌≡◌, ◌+◌, ◌*◌, ◌≤◌, ◌<◌, length};
 ghost use Rattle.words.specs.Record.{number};
 ghost use Rattle.layout.specs.Header.{header_of, in_limits, good_frame, good_header, records, first_rule, first_entity, first_transition, first_operation, first_effect, first_flow, first_step, first_route};
@@ -10,7 +12,7 @@ pub mod place;
 use words::{number, number_at};
 
 // The counts of a sheet, in the header's order.
-#[derive(Drop)]
+#[derive(Clone, Copy)]
 pub struct Header {
     pub personas: usize,
     pub facts: usize,
@@ -26,22 +28,22 @@ pub struct Header {
 }
 
 // Numbers that have been checked to exist, each of its own type, so that one cannot be passed for another.
-#[derive(Drop)]
+#[derive(Clone, Copy)]
 pub struct Persona(pub usize);
 
-#[derive(Drop)]
+#[derive(Clone, Copy)]
 pub struct Operation(pub usize);
 
-#[derive(Drop)]
+#[derive(Clone, Copy)]
 pub struct Entity(pub usize);
 
-#[derive(Drop)]
+#[derive(Clone, Copy)]
 pub struct Node(pub usize);
 
-#[derive(Drop)]
+#[derive(Clone, Copy)]
 pub struct Rule(pub usize);
 
-#[derive(Drop)]
+#[derive(Clone, Copy)]
 pub struct Flow(pub usize);
 
 impl Header {

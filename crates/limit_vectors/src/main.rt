@@ -1,5 +1,7 @@
 // Texts at the limits of the program `paths`, each a buffer of bytes in the script in the file stdin. Writes a line for each: the case's
 // number and how many words its sheet has, or the refused line as the program has it.
+#![tactic(auto)]
+
 ghost use Rattle.std.specs.Prelude.{◌<◌};
 ghost use Rattle.answer.specs.Number.{place};
 

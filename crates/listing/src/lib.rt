@@ -1,4 +1,6 @@
 // The paths of a flow, one after the other: first and next.
+#![tactic(auto)]
+
 ghost use Rattle.std.specs.Prelude.{◌≡◌, ◌++◌, ◌+◌, ◌-◌, ◌≤◌, ◌<◌, length, take};
 ghost use Rattle.std.proofs.lemmas.List.Edits.{sets};
 ghost use Rattle.walks.specs.Walkers.{arrived};
@@ -12,7 +14,7 @@ use layout::{Flow, Header};
 use walks::{Walker, clear, first_route, routes};
 
 // Where the path that follows a buffer's path leaves it.
-#[derive(Drop)]
+#[derive(Clone, Copy)]
 enum Found {
     // The buffer does not begin with a path.
     Nowhere,

@@ -1,4 +1,6 @@
 // A node by its kind: one arm for each of the kinds 0 to 17, as its row in specs/Rows.antt says.
+#![tactic(auto)]
+
 ghost use Rattle.std.specs.Prelude.{◌≡◌, ◌&&◌, [], ◌∷◌, ◌≤◌};
 ghost use Rattle.signed.specs.Words.{num as wordNumber};
 ghost use Rattle.item.specs.Sorts.{is_number};
@@ -12,7 +14,7 @@ use signed::{num, within};
 use words::{Words, numbers_of, unused};
 
 // The fact that a node names: the type and range of its value or, where it is a list, of its elements, and the list's largest length.
-#[derive(Drop)]
+#[derive(Clone, Copy)]
 pub struct Named {
     pub item: Item,
     pub list: bool,
@@ -21,7 +23,7 @@ pub struct Named {
 
 // What a node is worked out from: its words, how many facts and rules there are, the fact that it names, and the types and ranges of its
 // children, converted.
-#[derive(Drop)]
+#[derive(Clone, Copy)]
 pub struct Given {
     pub words: Words,
     pub facts: usize,
@@ -32,14 +34,14 @@ pub struct Given {
 }
 
 // Whether a node is good, and if so its type and range.
-#[derive(Drop)]
+#[derive(Clone, Copy)]
 pub struct Judgement {
     pub good: bool,
     pub item: Item,
 }
 
 // The children that a node names: how many, and the first two.
-#[derive(Drop)]
+#[derive(Clone, Copy)]
 pub struct Kids {
     pub count: usize,
     pub first: usize,

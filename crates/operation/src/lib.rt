@@ -1,4 +1,6 @@
 // One operation on one state for each entity, below the ladder of refusals: refusals 9 and 11, and the states afterwards.
+#![tactic(auto)]
+
 ghost use Rattle.std.specs.Prelude.{◌≡◌, ◌+◌, ◌<◌, length};
 ghost use Rattle.words.specs.Record.{number};
 ghost use Rattle.layout.specs.Header.{first_operation, first_effect};
@@ -17,7 +19,7 @@ use signed::{num, same, to_word};
 use words::{number, number_at};
 
 // Which outcome is wanted: any that is the only one applicable, or one by its number.
-#[derive(Drop)]
+#[derive(Clone, Copy)]
 pub enum Wanted {
     Any,
     One(usize),
@@ -25,7 +27,7 @@ pub enum Wanted {
 
 // What an operation comes to: the number of the chosen outcome; none, with the entity that blocks the outcome asked about; or several
 // where none is wanted.
-#[derive(Drop)]
+#[derive(Clone, Copy)]
 pub enum Choice {
     Outcome(usize),
     Nothing(usize),
@@ -33,7 +35,7 @@ pub enum Choice {
 }
 
 // An operation's effects: their numbers run from first up to end, in so many outcomes.
-#[derive(Drop)]
+#[derive(Clone, Copy)]
 pub struct Effects {
     pub first: usize,
     pub end: usize,

@@ -1,5 +1,7 @@
 // What the program writes for a sheet's text: a refused line, or the lines of its flows' paths. These can be hundreds of megabytes, so that
 // they are written chunk by chunk into a lent buffer.
+#![tactic(auto)]
+
 ghost use Rattle.std.specs.Prelude.{◌≡◌, ◌∷◌, ◌+◌, ◌≤◌, ◌<◌, length, take};
 ghost use Rattle.std.proofs.lemmas.List.Edits.{sets};
 ghost use Rattle.answer.specs.Number.{place};
@@ -22,14 +24,14 @@ const MOST: usize = 10_000;
 const LONGEST_LINE: usize = 1_285;
 
 // What a text holds: a sheet, by its header and how many words it has, or a refusal.
-#[derive(Drop)]
+#[derive(Clone, Copy)]
 pub enum Entrance {
     Good(Header, usize),
     Bad(Refusal),
 }
 
 // The path that is written next, by its flow and number; it stands in the path buffer. Past the last flow, nothing is left to write.
-#[derive(Drop)]
+#[derive(Clone, Copy)]
 pub struct Cursor {
     pub flow: usize,
     pub number: usize,
@@ -40,7 +42,7 @@ pub struct Cursor {
 }
 
 // What there is to say on standard error.
-#[derive(Drop)]
+#[derive(Clone, Copy)]
 pub enum Notice {
     Nothing,
     Refused,
@@ -49,7 +51,7 @@ pub enum Notice {
 }
 
 // How many bytes of a chunk were written, and where to go on.
-#[derive(Drop)]
+#[derive(Clone, Copy)]
 pub struct Filled {
     pub written: usize,
     pub cursor: Cursor,

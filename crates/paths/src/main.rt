@@ -1,5 +1,7 @@
 // Reads a sheet's text and writes each flow's first 10,000 paths, or a refused line: what is written for a text is path_lines' `output`.
 // Where a text is refused, a list is cut or standard output fails, it says so in a line on standard error: path_lines' `said`.
+#![tactic(auto)]
+
 ghost use Rattle.std.specs.Prelude.{◌<◌, ◌≡◌, ◌⊎◌};
 ghost use Rattle.answer.specs.Number.{place};
 ghost use Rattle.records.specs.Accepted.{Accepted};

@@ -1,4 +1,6 @@
 // Predicates over facts and verdicts: whether a node is true, and its range; and the verdicts.
+#![tactic(auto)]
+
 ghost use Rattle.std.specs.Prelude.{◌≡◌, true, ℕ, ◌+◌, ◌*◌, ◌^◌, ◌<◌, ◌≤◌, ℤ, pos, List, length, get_or};
 ghost use Rattle.signed.specs.Words.{within as in_range};
 ghost use Rattle.layout.specs.Header.{header_of};
@@ -67,7 +69,7 @@ fn joint_at(s: &[i64], k: usize, x: i64, y: i64) -> i64
 }
 
 // What a quantifier goes over, and whether it is "exists".
-#[derive(Drop)]
+#[derive(Clone, Copy)]
 pub struct Elements {
     pub exists: bool,
     pub first: usize,
@@ -143,7 +145,7 @@ fn evaluate(
 }
 
 // Whether a node is true: a when-node, a precondition, a branch.
-pub fn is_true_lem(
+pub fn is_true(
     s: &[i64],
     h: Header,
     facts: &[i64],
@@ -169,7 +171,7 @@ pub fn fill_verdicts(s: &[i64], h: Header, facts: &[i64], lists: &[i64], out: &m
     let first = h.facts + h.nodes;
     for k in 0..rules {
         let when = number(s, first + k, place::RULE_WHEN_NODE);
-        let holds = is_true_lem(s, h, facts, lists, &out[..k], Node(when));
+        let holds = is_true(s, h, facts, lists, &out[..k], Node(when));
         out[k] = bit(holds);
     }
 }

@@ -1,4 +1,6 @@
 // Report S2: the mask of the states of an entity that are reached from its initial one, and how many scans of transitions found it.
+#![tactic(auto)]
+
 ghost use Rattle.std.specs.Prelude.{◌≡◌, false, cond, ◌+◌, ◌≤◌, ◌<◌, ◌^◌, length, get_or, replicate};
 ghost use Rattle.records.specs.Accepted.{Accepted};
 ghost use Rattle.reach.specs.Reached.{mask_below, reachable, scans};
@@ -10,7 +12,7 @@ use tables::mark;
 use words::{Record, number, record_at};
 
 // What S2 finds: the states as a mask, and how often transitions were scanned.
-#[derive(Drop)]
+#[derive(Clone, Copy)]
 pub struct Reach {
     pub mask: usize,
     pub scans: usize,

@@ -1,4 +1,6 @@
 // Tests of a single record, from its words and from the numbers that earlier records give.
+#![tactic(auto)]
+
 ghost use Rattle.std.specs.Prelude.{◌≡◌, ℕ, ◌+◌, ◌*◌, ◌≤◌, ◌<◌, true, cond, ◌&&◌, eqb, length};
 ghost use Rattle.std.specs.Int.Signed.{le_z};
 ghost use Rattle.signed.specs.Words.{bounded as inBounds};

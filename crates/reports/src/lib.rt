@@ -1,4 +1,6 @@
 // The reports S1 to S5 and S7, for any input: each climbs the ladder of refusals, then answers a number, and S2 a second one.
+#![tactic(auto)]
+
 ghost use Rattle.std.specs.Prelude.{◌≡◌, ◌<◌};
 ghost use Rattle.records.specs.Accepted.{Accepted};
 ghost use Rattle.signed.specs.Words.{num as wordNumber};
@@ -16,7 +18,7 @@ use signed::num;
 use tree::tree_size;
 
 // The reports that take one number, that of a record, and answer one.
-#[derive(Drop)]
+#[derive(Clone, Copy)]
 pub enum Report {
     States,
     Stratum,

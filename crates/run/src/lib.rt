@@ -1,4 +1,6 @@
 // A run of a flow, below the ladder of refusals: facts and verdicts are fixed at its start.
+#![tactic(auto)]
+
 ghost use Rattle.std.specs.Prelude.{◌≡◌, true, false, ◌&&◌, ◌+◌, ◌<◌, pos, length, get_or};
 ghost use Rattle.words.specs.Record.{number};
 ghost use Rattle.layout.specs.Header.{first_step};
@@ -113,7 +115,7 @@ fn branch(
 {
     let first = first_route(s, h, step);
     let node = Node(step_word(s, h, step, place::STEP_NODE));
-    if is_true_lem(s, h, facts, lists, verdicts, node) {
+    if is_true(s, h, facts, lists, verdicts, node) {
         first
     } else {
         first + 1

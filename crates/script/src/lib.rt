@@ -1,5 +1,7 @@
 // A script for the programs that run cases: numbers from text, decimals parted by any other byte, onto a tape. `<` and `>` stand for the
 // least and the greatest word, `#` starts a comment. `buffers` takes the cases from the tape, `lines` writes what came of them.
+#![tactic(auto)]
+
 ghost use Rattle.std.specs.Prelude.{◌≤◌, length};
 
 pub mod buffers;
@@ -8,7 +10,7 @@ pub mod lines;
 use signed::to_word;
 
 // What has been read of the number, or the comment, at hand.
-#[derive(Drop)]
+#[derive(Clone, Copy)]
 pub struct Part {
     pub value: usize,
     pub digits: bool,

@@ -1,5 +1,7 @@
 // The scan of the effects, operation by operation. For each (entity, from) an array holds the stamp of the outcome that last had an
 // effect from there.
+#![tactic(auto)]
+
 ghost use Rattle.std.specs.Prelude.{◌≡◌, false, not, ◌&&◌, ◌+◌, ◌*◌, ◌≤◌, ◌<◌, eqb, length, get_or, replicate};
 ghost use Rattle.tables.specs.Scan.{first_fail};
 ghost use Rattle.sheet_states.specs.Flags.{place_of};

@@ -1,5 +1,7 @@
 // The scan of the facts. Enums of one set have one max, lists of them too: an array holds the max of each set met so far, and 256 where none
 // was.
+#![tactic(auto)]
+
 ghost use Rattle.std.specs.Prelude.{◌≡◌, ◌+◌, ◌*◌, ◌≤◌, ◌<◌, length};
 ghost use Rattle.tables.specs.Scan.{first_fail};
 ghost use Rattle.layout.specs.Sized.{Sized};

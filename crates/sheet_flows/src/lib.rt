@@ -1,4 +1,6 @@
 // The scans of the flows and of the routes.
+#![tactic(auto)]
+
 ghost use Rattle.std.specs.Prelude.{◌≡◌, true, ◌+◌, ◌<◌};
 ghost use Rattle.tables.specs.Scan.{first_fail};
 ghost use Rattle.words.specs.Record.{number};
@@ -47,7 +49,7 @@ fn check_group(s: &[i64], h: Header, i: usize, last: usize, first: usize, end: u
 }
 
 // How many flows start at or before a step, and where the steps of the last of them end.
-#[derive(Drop)]
+#[derive(Clone, Copy)]
 pub struct Cursor {
     pub flows: usize,
     pub last: usize,

@@ -1,5 +1,7 @@
 // The scan of the nodes, in order, with arrays for what later records ask of them: value ranges, types, of each node's tree the greatest rule
 // and the elements that it cites, and which nodes have been named.
+#![tactic(auto)]
+
 ghost use Rattle.std.specs.Prelude.{◌≡◌, true, false, cond, ◌||◌, [], ℕ, suc, ◌<◌, ◌≤◌, max, ltb, eqb, length, get_or, set};
 ghost use Rattle.tables.specs.Scan.{first_fail};
 ghost use Rattle.tables.specs.Inner.{marked};

@@ -1,4 +1,6 @@
 // The scans of the records that name a tree's root: rules, operations and steps.
+#![tactic(auto)]
+
 ghost use Rattle.std.specs.Prelude.{◌≡◌};
 ghost use Rattle.sheet_roots.specs.Roots.{root_test};
 

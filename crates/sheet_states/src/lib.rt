@@ -1,4 +1,6 @@
 // The scans of the entities and of the transitions. A flag for each (entity, from, to) says whether that transition is declared.
+#![tactic(auto)]
+
 ghost use Rattle.std.specs.Prelude.{◌≡◌, true, false, ℕ, ◌+◌, ◌*◌, ◌≤◌, ◌<◌, length, replicate};
 ghost use Rattle.tables.specs.Scan.{first_fail};
 ghost use Rattle.words.specs.declared.Record.{Record};

@@ -7,7 +7,7 @@ const HEADER: [i64; 16] = [
 ];
 
 // The words of a record; the last three are 0.
-#[derive(Drop)]
+#[derive(Clone, Copy)]
 pub struct Words {
     pub a: usize,
     pub b: usize,

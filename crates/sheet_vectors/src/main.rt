@@ -1,5 +1,7 @@
 // Runs the sheet checker over the cases of the file stdin and over a sweep of its first sheet. Writes a line for each case: its number,
 // the number of the refusal, 0 where the sheet is accepted, and the refusal's place.
+#![tactic(auto)]
+
 ghost use Rattle.std.specs.Prelude.{◌+◌, ◌≤◌, ◌<◌};
 
 mod largest;

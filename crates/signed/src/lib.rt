@@ -1,5 +1,7 @@
 // Signed words as integers: tests, bounds, the number that a word is, arithmetic in −M..M, and comparisons over ranges of values.
 // The laws that callers' proofs cite are in proofs/, by natural numbers alone.
+#![tactic(auto)]
+
 ghost use Rattle.std.specs.Prelude.{◌≡◌, true, pos, ◌+ℤ◌, ◌-ℤ◌, ◌*ℤ◌, ◌<◌, ◌^◌};
 ghost use Rattle.std.specs.Int.Signed.{lt_z, le_z};
 ghost use Rattle.signed.specs.Words.{eq_z, within, bounded, num, min_z, max_z};

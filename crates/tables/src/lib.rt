@@ -1,4 +1,6 @@
 // Arrays that are read at any number: past the end stands the default.
+#![tactic(auto)]
+
 ghost use Rattle.std.specs.Prelude.{◌≡◌, true, false, pos, get_or};
 ghost use Rattle.tables.specs.Inner.{marked};
 

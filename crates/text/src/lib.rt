@@ -1,4 +1,6 @@
 // 01, "Text of a sheet": lines of eight words are read and written. One pass judges, a later one writes.
+#![tactic(auto)]
+
 ghost use Rattle.std.specs.Prelude.{◌≡◌, true, ◌≤◌, leb, length, take, drop};
 ghost use Rattle.std.proofs.lemmas.List.Edits.{sets};
 ghost use Rattle.text.specs.Lines.{all, good_row, rows_of, text_of, good_line, lines_of, words_of};
@@ -9,7 +11,7 @@ use answer::{Count, Refusal};
 use decimal::Word;
 
 // A line's end, or that it is bad.
-#[derive(Drop)]
+#[derive(Clone, Copy)]
 pub enum LineEnd {
     Next(usize),
     Bad,

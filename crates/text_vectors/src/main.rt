@@ -1,6 +1,8 @@
 // Runs the reader and the writer of texts over the cases of the file stdin. Writes a line for each: the case's number, the answer, and the
 // whole buffer of which a part was lent. A buffer has a guard in every place: past the result, and past the part that is lent, it must
 // still be there.
+#![tactic(auto)]
+
 use answer::{Count, Refusal};
 use script::buffers::{lend, lend_bytes, number, past, skip};
 use script::lines;

@@ -1,4 +1,6 @@
 // The tree under a node: its children, and how many nodes it has.
+#![tactic(auto)]
+
 ghost use Rattle.std.specs.Prelude.{◌≡◌, ◌+◌, ◌*◌, ◌<◌, ◌≤◌, length};
 ghost use Rattle.layout.specs.Header.{header_of};
 ghost use Rattle.node.specs.Judged.{kids};

@@ -1,4 +1,6 @@
 // Walks along a flow: its steps and routes, a walker that takes one route after the other, and the buffer past a path.
+#![tactic(auto)]
+
 ghost use Rattle.std.specs.Prelude.{◌≡◌, ◌++◌, ◌-◌, ◌^◌, ◌≤◌, ◌<◌, length, take, replicate};
 ghost use Rattle.layout.specs.Sized.{Sized};
 ghost use Rattle.walks.specs.Paths.{first_step_of, steps_of, first_route_of, routes_of, ends, target};
@@ -8,7 +10,7 @@ use layout::{Flow, Header, place};
 use words::number;
 
 // Where a walk along a flow stands: the step that it comes to, or the terminal once it is finished, and how many routes it has taken.
-#[derive(Drop)]
+#[derive(Clone, Copy)]
 pub struct Walker {
     pub step: usize,
     pub length: usize,

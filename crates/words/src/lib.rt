@@ -1,4 +1,6 @@
 // The words of a sheet, record by record.
+#![tactic(auto)]
+
 ghost use Rattle.std.specs.Prelude.{◌≡◌, ◌+◌, ◌*◌, ◌≤◌, ◌<◌, pos, length, get_or};
 ghost use Rattle.signed.specs.Words.{num};
 ghost use Rattle.words.specs.Record.{word, number, record_at, words_at, numbers_of, unused};
@@ -6,7 +8,7 @@ ghost use Rattle.words.specs.Record.{word, number, record_at, words_at, numbers_
 use signed::num;
 
 // A record's eight words as natural numbers.
-#[derive(Drop)]
+#[derive(Clone, Copy)]
 pub struct Record {
     pub w0: usize,
     pub w1: usize,
@@ -19,7 +21,7 @@ pub struct Record {
 }
 
 // A record's eight words as they stand: facts and nodes have words that may be negative.
-#[derive(Drop)]
+#[derive(Clone, Copy)]
 pub struct Words {
     pub w0: i64,
     pub w1: i64,
