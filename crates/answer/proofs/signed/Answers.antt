@@ -1,0 +1,7 @@
+-- `answer::signed` meets its contract. Assumes nothing.
+use mir.Syntax.{w64}
+use mir.ValLaws.{to_z_pos}
+use Rattle.answer.proofs.signed.Goals as goal
+
+pub returns : goal.returns
+returns c = to_z_pos w64 c.args.n c.requires
