@@ -2,7 +2,7 @@
 """Spells the repository's own definitions and lemmas in snake case, by respell.tsv beside this file: a row is old, tab, new, and `field` where the
 name is a record's field. Run once, at the top, after the kit's port.py.
 
-A name turns as a whole word of antt. Behind a dot only a field turns, but on `use` lines. A name that a file imports from the kit's libraries stays in
+A name turns as a whole word of antt. Behind a dot a field turns, a name in camel case, and a module's name. A name that a file imports from the kit's libraries stays in
 that file. In Rattle sources a name turns in clauses, `ghost use` items and comments, in pages and Rust tests within back quotes.
 """
 
@@ -13,6 +13,7 @@ import sys
 HERE = os.path.dirname(os.path.realpath(__file__))
 WORD = re.compile(r'[^\s(){}.;,@"«»`\[\]←¬]+')
 USE = re.compile(r"^(?:ghost )?use ([^\s;{]+?)\.?(\{[^}]*\})?(?: as \S+)?;?\s*$", re.M)
+CAMEL = re.compile("[a-z][a-z0-9]*[A-Z]")
 ROWS = [line.rstrip("\n").split("\t") for line in open(os.path.join(HERE, "respell.tsv"), encoding="utf-8")]
 NEW = {row[0]: row[1] for row in ROWS}
 FIELDS = {row[0] for row in ROWS if len(row) > 2}
@@ -26,6 +27,7 @@ def turn(text, crates, code=False):
     """The text with each name of the table in its new spelling. In Rattle code a name that may be a function's stays: one in snake case already."""
     ours = own(crates)
     foreign = set()
+    modules = set(re.findall(r"(?m)^(?:ghost )?use [^\s;{]+? as ([^\s;{]+)", text)) | set(re.findall(r"(?m)^use \S+\.(\w+)$", text))
     for m in USE.finditer(text):
         if not ours.match(m[1]):
             foreign |= set(WORD.findall(m[2] or ""))
@@ -35,8 +37,8 @@ def turn(text, crates, code=False):
             w = m[0]
             if w not in NEW or w in foreign or code and re.fullmatch("[a-z0-9_]+", w):
                 return w
-            behind = m.start() > 0 and l[m.start() - 1] == "."
-            if behind and not is_use and w not in FIELDS:
+            behind = re.search(r"([^\s(){};,@\"]*)\.$", l[: m.start()])
+            if behind and not is_use and w not in FIELDS and not CAMEL.match(w) and behind[1] not in modules:
                 return w
             return NEW[w]
 
@@ -52,6 +54,8 @@ def spans(text, crates):
 
 def main():
     root = os.getcwd()
+    if not any(name in NEW and CAMEL.match(name) for name in WORD.findall(open(os.path.join(root, "crates/tables/specs/Scan.antt"), encoding="utf-8").read())):
+        sys.exit("respell: this tree has the new spelling already")
     crates = sorted(os.listdir(os.path.join(root, "crates")))
     count = 0
     for folder, dirs, files in os.walk(root):

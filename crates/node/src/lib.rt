@@ -113,7 +113,7 @@ fn literal(g: Given, used: usize, low: i64, high: i64, t: usize, m: usize) -> Ju
 
 // Whether there is a fact of the number in word 1.
 fn names_fact(g: Given) -> bool
-    ensures { result ≡ rows.namesFact g }
+    ensures { result ≡ rows.names_fact g }
 {
     let w = g.words;
     num(w.w1) < g.facts
@@ -121,14 +121,14 @@ fn names_fact(g: Given) -> bool
 
 // And it is a list.
 fn names_list(g: Given) -> bool
-    ensures { result ≡ rows.namesList g }
+    ensures { result ≡ rows.names_list g }
 {
     let f = g.fact;
     names_fact(g) & f.list
 }
 
 fn fact_named(g: Given) -> Judgement
-    ensures { result ≡ judged.judged rows.factNamed g }
+    ensures { result ≡ judged.judged rows.fact_named g }
 {
     let f = g.fact;
     let x = f.item;
@@ -212,21 +212,21 @@ fn negated(g: Given) -> Judgement
 
 // "For all" and "exists" are judged alike.
 fn quantifier(g: Given) -> Judgement
-    ensures { result ≡ judged.judged rows.forAll g }
+    ensures { result ≡ judged.judged rows.for_all g }
 {
     let x = g.x;
     checked(3, g, names_list(g) & (x.sort == 0), span(0, 0, 1))
 }
 
 fn list_length(g: Given) -> Judgement
-    ensures { result ≡ judged.judged rows.listLength g }
+    ensures { result ≡ judged.judged rows.list_length g }
 {
     let f = g.fact;
     checked(2, g, names_list(g), span(1, 0, f.most))
 }
 
 fn list_element(g: Given) -> Judgement
-    ensures { result ≡ judged.judged rows.listElement g }
+    ensures { result ≡ judged.judged rows.list_element g }
 {
     let f = g.fact;
     let x = f.item;
@@ -280,7 +280,7 @@ fn judge_by_kind(k: usize, g: Given) -> Judgement
 // A node of kind number k that has children.
 pub fn judge_parent(k: usize, g: Given) -> Judgement
     requires { (rows.row_of k).children g.words ≡ [] → ⊥ }
-    ensures { result ≡ judged.judgedParent (rows.row_of k) g }
+    ensures { result ≡ judged.judged_parent (rows.row_of k) g }
 {
     let x = g.x;
     let y = g.y;
