@@ -25,7 +25,7 @@ overflow_add-n c = omega (
       (counting_more c.args.words.now c.requires c.loop-i.i c.loop-i-test.true c.loop-i.n
       c.loop-i.invariant.1) in counted),
   text_most c.args.words.now c.requires,
-  c.UNKNOWN_well-formed.0.1,
+  c.well_formed.0.1,
 )
 
 pub overflow_add-n-in-loop-i : goal.overflow_add-n-in-loop-i
@@ -37,7 +37,7 @@ overflow_add-n-in-loop-i c = omega (
       (counting_more c.args.words.now c.requires c.loop-i.i c.loop-i-test.true c.loop-i.n
       c.loop-i.invariant.1) in counted),
   text_most c.args.words.now c.requires,
-  c.UNKNOWN_well-formed.0.1,
+  c.well_formed.0.1,
 )
 
 pub loop-i-preserved : goal.loop-i-preserved

@@ -16,7 +16,7 @@ loop-at-smaller c = omega (
   ((let more : (c.loop-at.at < c.in-Next.next) × Counting
       c.args.text.now c.in-Next.next
       (c.loop-at.k + 1) = counting_more c.args.text.now c.loop-at.at c.loop-at.k c.in-Next.next c.loop-at.invariant
-      (sym c.UNKNOWN_line_at_lem.ensures ∙ c.in-Next.is) in more)).0,
+      (sym c.line_at.ensures ∙ c.in-Next.is) in more)).0,
   c.loop-at-test.true,
 )
 
@@ -24,11 +24,11 @@ pub loop-at-preserved : goal.loop-at-preserved
 loop-at-preserved c = ((let more : (c.loop-at.at < c.in-Next.next) × Counting
     c.args.text.now c.in-Next.next
     (c.loop-at.k + 1) = counting_more c.args.text.now c.loop-at.at c.loop-at.k c.in-Next.next c.loop-at.invariant
-    (sym c.UNKNOWN_line_at_lem.ensures ∙ c.in-Next.is) in more)).1
+    (sym c.line_at.ensures ∙ c.in-Next.is) in more)).1
 
 pub returns-in-Bad : goal.returns-in-Bad
 returns-in-Bad c = sym (counting_bad c.args.text.now c.loop-at.at c.loop-at.k c.loop-at-test.true c.loop-at.invariant
-    (sym c.UNKNOWN_line_at_lem.ensures ∙ c.in-Bad.is))
+    (sym c.line_at.ensures ∙ c.in-Bad.is))
 
 pub overflow_mul-result : goal.overflow_mul-result
 overflow_mul-result c = omega (arith, c.loop-at.invariant.within, c.loop-at.invariant.most)

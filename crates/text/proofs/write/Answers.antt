@@ -12,7 +12,7 @@ use Rattle.text.proofs.WriteLoops.{lines_few, lines_whole, lines_short}
 use Rattle.text.proofs.write.Goals as goal
 
 pub overflow_mul-lines : goal.overflow_mul-lines
-overflow_mul-lines c = omega (arith, lines_few c.args.words.now c.good_rows-lines.result c.good_rows-lines.ensures, c.UNKNOWN_well-formed.0.1)
+overflow_mul-lines c = omega (arith, lines_few c.args.words.now c.good_rows-lines.result c.good_rows-lines.ensures, c.well_formed.0.1)
 
 pub returns-then-lines-words : goal.returns-then-lines-words
 unfolding write_answer write_buffer
@@ -37,7 +37,7 @@ put-requires c = (
 )
 
 pub shape_of-text : goal.shape_of-text
-shape_of-text c = c.put.auto.1.0
+shape_of-text c = c.put.auto.text.0
 
 pub returns : goal.returns
 unfolding write_answer write_buffer
