@@ -23,7 +23,7 @@ store-requires c = (
 )
 
 pub shape_of-words : goal.shape_of-words
-shape_of-words c = c.store.auto.words.0
+shape_of-words c = c.store.auto.words
 
 pub returns-else-words-n : goal.returns-else-words-n
 unfolding read_answer read_buffer

@@ -37,7 +37,7 @@ put-requires c = (
 )
 
 pub shape_of-text : goal.shape_of-text
-shape_of-text c = c.put.auto.text.0
+shape_of-text c = c.put.auto.text
 
 pub returns : goal.returns
 unfolding write_answer write_buffer

@@ -1,0 +1,12 @@
+-- `operation::perform` meets its contract: the choice, and the states of the choice. Assumes nothing.
+use Rattle.operation.proofs.Guarantees.{with_outcome, with_none, with_several}
+use Rattle.operation.proofs.perform.Goals as goal
+
+pub returns-in-Outcome : goal.returns-in-Outcome
+returns-in-Outcome c = with_outcome _ _ _ _ _ _ _ _ c.in-Outcome.is c.choose-choice.ensures c.apply.ensures
+
+pub returns-in-Nothing : goal.returns-in-Nothing
+returns-in-Nothing c = with_none _ _ _ _ _ _ _ c.in-Nothing.is c.choose-choice.ensures
+
+pub returns-in-Several : goal.returns-in-Several
+returns-in-Several c = with_several _ _ _ _ _ _ c.in-Several.is c.choose-choice.ensures

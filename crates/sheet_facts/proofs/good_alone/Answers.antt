@@ -1,0 +1,22 @@
+-- `sheet_facts::good_alone` meets its contract. Assumes nothing.
+use Rattle.words.specs.Record.{record_at}
+use Rattle.sheet_facts.specs.Maxes.{good_alone}
+use Rattle.signed.proofs.Fit.{back_of}
+use Rattle.sheet_facts.proofs.good_alone.Goals as goal
+
+pub returns : goal.returns
+unfolding good_alone record_at
+returns c = rw (
+  c.good_tail.ensures,
+  c.good_default.ensures,
+  c.good_set.ensures,
+  c.good_bounds.ensures,
+  c.valued-kind.ensures,
+  back_of c.word-default.result c.word-default.type_inv,
+  c.word-default.ensures,
+  back_of c.word-max.result c.word-max.type_inv,
+  c.word-max.ensures,
+  back_of c.word-min.result c.word-min.type_inv,
+  c.word-min.ensures,
+  c.requires.1,
+)
