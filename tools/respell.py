@@ -59,7 +59,7 @@ def main():
     crates = sorted(os.listdir(os.path.join(root, "crates")))
     count = 0
     for folder, dirs, files in os.walk(root):
-        dirs[:] = sorted(d for d in dirs if d not in (".git", "out", "target", "tools"))
+        dirs[:] = sorted(d for d in dirs if d not in (".git", "out", "tools") and not (d == "target" and folder in (root, os.path.join(root, "rust"))))
         for name in sorted(files):
             path = os.path.join(folder, name)
             kind = os.path.splitext(name)[1]

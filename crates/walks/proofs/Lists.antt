@@ -13,6 +13,7 @@ use Rattle.walks.specs.Paths.{Before, here, later, in_turn, Among}
 -- ---- members
 
 mem_put : (r : ℕ) (q : List ℕ) (ps : List (List ℕ)) → Memᴰ q ps → Memᴰ (r ∷ q) (map (λ p. r ∷ p) ps)
+mem_put r q [] x = elim x [ ]
 mem_put r q (p ∷ ps) (Memᴰ.head e) = Memᴰ.head (ap (λ (t : List ℕ). r ∷ t) e)
 mem_put r q (p ∷ ps) (Memᴰ.tail m) = Memᴰ.tail (mem_put r q ps m)
 

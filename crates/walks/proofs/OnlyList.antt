@@ -14,11 +14,14 @@ use Rattle.walks.specs.Paths.{PathOf, Before, here, later, Among, WholeList, pat
 use Rattle.walks.proofs.AllPaths.{before_self, path_list}
 
 -- neither of two comes before the other and after it
+before_apart : {p q x y : List ℕ} → Before p q → Before x y → q ≡ x → p ≡ y → ⊥
+before_apart (here {a = a} {b = b} l) (here {a = c} {b = d} m) e f = let z : b ≡ c = cc in let w : a ≡ d = cc in omega arith
+before_apart (here {a = a} {b = b} l) (later {a = c} y) e f = let z : b ≡ c = cc in let w : a ≡ c = cc in omega arith
+before_apart (later {a = a} x) (here {a = c} {b = d} m) e f = let z : a ≡ c = cc in let w : a ≡ d = cc in omega arith
+before_apart (later {p = p} {q = q} x) (later {p = u} {q = v} y) e f = let z : q ≡ u = cc in let w : p ≡ v = cc in before_apart x y z w
+
 before_once : {p q : List ℕ} → Before p q → Before q p → ⊥
-before_once (here l) (here m) = omega arith
-before_once (here l) (later y) = omega arith
-before_once (later x) (here m) = omega arith
-before_once (later x) (later y) = before_once x y
+before_once x y = before_apart x y refl refl
 
 -- ---- lists in order
 

@@ -5,6 +5,8 @@ use lib.Dec.{lit<}
 use Rattle.operation.proofs.Targets.{outcomes_is, has_flag, clear}
 use native.Mathlib.Omega.{arith}
 use Prim.Native.Nat.{◌-◌}
+use mathlib.Core.Path.{ap}
+use mathlib.Core.Bool.{not}
 use Rattle.operation.proofs.choose.Goals as goal
 
 pub effects_of-effects-requires : goal.effects_of-effects-requires
@@ -53,7 +55,7 @@ unfolding record_at
 outcomes-preserved-then-not-found-n c = passed_over c.requires _ _ _ _ _ _ _ c.outcomes.invariant c.collect-stop.ensures _ _ _ _ c.loop-d.invariant
     c.loop-d-test.true
     (next_exists c.requires _ _ c.effects_of-effects.ensures _ _ _ _ c.outcomes.invariant c.if-j-outcomes.false)
-    c.effect_word-n.ensures c.if-not-found-n.true _ _ c.about-subject.ensures c.noted-blocker.ensures
+    c.effect_word-n.ensures (ap not c.if-not-found-n.true) _ _ c.about-subject.ensures c.noted-blocker.ensures
 
 pub overflow_add-d : goal.overflow_add-d
 overflow_add-d c = omega (arith, ends_early c.requires _ _ _ _ _ _ _ c.outcomes.invariant c.collect-stop.ensures)
@@ -63,7 +65,7 @@ loop-d-smaller c = omega arith
 
 pub loop-d-preserved : goal.loop-d-preserved
 unfolding record_at
-loop-d-preserved c = checked_more _ _ _ _ _ _ _ _ _ _ _ c.loop-d.invariant c.loop-d-test.true c.effect_word-n.ensures c.if-not-found-n.false
+loop-d-preserved c = checked_more _ _ _ _ _ _ _ _ _ _ _ c.loop-d.invariant c.loop-d-test.true c.effect_word-n.ensures (ap not c.if-not-found-n.false)
 
 pub overflow_add-j-in-outcomes : goal.overflow_add-j-in-outcomes
 overflow_add-j-in-outcomes c = omega (arith, c.loop-d.invariant.same_j, few c.requires _ _ _ _ _ c.outcomes.invariant)

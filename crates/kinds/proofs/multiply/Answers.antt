@@ -1,0 +1,11 @@
+-- `kinds::multiply` meets its contract. Assumes nothing.
+use Rattle.signed.proofs.Fit.{back}
+use Rattle.kinds.proofs.SecondsLaws.{fits_wide}
+use Rattle.kinds.proofs.multiply.Goals as goal
+
+pub overflow_mul-result : goal.overflow_mul-result
+overflow_mul-result c = rw (back c.ranges.a, back c.ranges.b) (fits_wide c.requires)
+
+pub returns : goal.returns
+returns c = rw (back c.ranges.a, back c.ranges.b)
+    (back (fits_wide c.requires))

@@ -1,0 +1,10 @@
+-- `kinds::subtract` meets its contract. Assumes nothing.
+use Rattle.signed.proofs.Fit.{back}
+use Rattle.kinds.proofs.SecondsLaws.{fits_wide}
+use Rattle.kinds.proofs.subtract.Goals as goal
+
+pub overflow_sub-result : goal.overflow_sub-result
+overflow_sub-result c = rw (back c.ranges.a, back c.ranges.b) (fits_wide c.requires)
+
+pub returns : goal.returns
+returns c = rw (back c.ranges.a, back c.ranges.b) (back (fits_wide c.requires))
