@@ -1,0 +1,9 @@
+-- `depth::longest` meets its contract: the steps from the last one down to the first have their depths in the table. Assumes nothing.
+use Rattle.depth.proofs.Depths.{Deep}
+use Rattle.depth.proofs.longest.Given as goal
+
+abbrev pub invariant-loop-step : goal.invariant-loop-step
+invariant-loop-step l = Deep l.s l.h l.first l.initial.step l.depths l.step
+
+abbrev pub decreases-loop-step : goal.decreases-loop-step
+decreases-loop-step l = l.step
