@@ -26,14 +26,12 @@ pub slice_bounds-step_depth-end : goal.slice_bounds-step_depth-end
 slice_bounds-step_depth-end c = sym c.loop-step.invariant.size
 
 pub step_depth-depth-requires : goal.step_depth-depth-requires
-step_depth-depth-requires c = let both = (
-  c.requires.accepted,
-  (
-    deep_step c.requires.accepted _ c.requires.flow_lt_flows c.first_step-first.ensures c.steps.ensures c.loop-step.invariant
-        c.loop-step-test.true,
-    c.loop-step.invariant.shallow,
-  ),
-) in record { accepted = both.0; step_lt_steps = both.1; shallow = both.2 }
+step_depth-depth-requires c = record {
+  accepted = c.requires.accepted;
+  step_lt_steps = deep_step c.requires.accepted _ c.requires.flow_lt_flows c.first_step-first.ensures c.steps.ensures c.loop-step.invariant
+      c.loop-step-test.true;
+  shallow = c.loop-step.invariant.shallow;
+}
 
 pub offset_bounds-depths-step : goal.offset_bounds-depths-step
 offset_bounds-depths-step c = omega (

@@ -5,7 +5,7 @@ use native.Mathlib.Omega.{arith}
 use Rattle.depth.proofs.route_depth.Goals as goal
 
 pub overflow_add-result : goal.overflow_add-result
-overflow_add-result c = omega (arith, c.entry.ensures, c.requires.route_lt_routes.1.each c.target.result)
+overflow_add-result c = omega (arith, c.entry.ensures, c.requires.shallow.each c.target.result)
 
 pub returns-then-ends : goal.returns-then-ends
 returns-then-ends c = sym (route_ends _ _ _ _ (sym c.ends.ensures ∙ c.if-ends.true))

@@ -5,15 +5,15 @@ use native.Mathlib.Omega.{arith}
 use Rattle.depth.proofs.step_depth.Goals as goal
 
 pub first_route-route-requires : goal.first_route-route-requires
-first_route-route-requires c = record { sized = c.requires.accepted.sized; step_lt_steps = c.requires.step_lt_steps.0 }
+first_route-route-requires c = record { sized = c.requires.accepted.sized; step_lt_steps = c.requires.step_lt_steps }
 
 pub routes-requires : goal.routes-requires
-routes-requires c = record { sized = c.requires.accepted.sized; step_lt_steps = c.requires.step_lt_steps.0 }
+routes-requires c = record { sized = c.requires.accepted.sized; step_lt_steps = c.requires.step_lt_steps }
 
 pub overflow_add-end : goal.overflow_add-end
 overflow_add-end c = omega (
   arith,
-  scan_in _ _ c.requires.accepted _ c.requires.step_lt_steps.0 c.first_route-route.ensures c.routes.ensures,
+  scan_in _ _ c.requires.accepted _ c.requires.step_lt_steps c.first_route-route.ensures c.routes.ensures,
   c.requires.accepted.sized.limits.routes,
 )
 
@@ -21,18 +21,12 @@ pub loop-route-init : goal.loop-route-init
 loop-route-init c = scan_none _ _ _
 
 pub route_depth-depth-requires : goal.route_depth-depth-requires
-route_depth-depth-requires c = let both = (
-  c.requires.accepted.sized,
-  (
-    omega (arith, scan_in _ _ c.requires.accepted _ c.requires.step_lt_steps.0 c.first_route-route.ensures c.routes.ensures),
-    c.requires.step_lt_steps.1,
-  ),
-) in record { sized = both.0; route_lt_routes = both.1; shallow = both.2 }
+route_depth-depth-requires c = record { sized = c.requires.accepted.sized; route_lt_routes = omega (arith, scan_in _ _ c.requires.accepted _ c.requires.step_lt_steps c.first_route-route.ensures c.routes.ensures); shallow = c.requires.shallow }
 
 pub overflow_add-route : goal.overflow_add-route
 overflow_add-route c = omega (
   arith,
-  scan_in _ _ c.requires.accepted _ c.requires.step_lt_steps.0 c.first_route-route.ensures c.routes.ensures,
+  scan_in _ _ c.requires.accepted _ c.requires.step_lt_steps c.first_route-route.ensures c.routes.ensures,
   c.requires.accepted.sized.limits.routes,
 )
 

@@ -3,6 +3,8 @@ use Prim.Native.Nat.{◌-◌}
 use lib.Dec.{lit<}
 use Rattle.words.specs.Record.{record_at}
 use Rattle.instances.proofs.Covering.{effect_there, none_flagged, one_flagged, not_flagged, all_flagged}
+use mathlib.Core.Bool.{not}
+use mathlib.Core.Path.{ap}
 use Rattle.instances.proofs.covers.Goals as goal
 
 pub loop-e-init : goal.loop-e-init
@@ -14,12 +16,12 @@ effect_word-requires c = record { sized = c.requires.accepted.sized; e_lt_effect
 pub returns-then-not-flag : goal.returns-then-not-flag
 unfolding record_at
 returns-then-not-flag c = not_flagged c.requires.accepted c.requires.o_lt_operations _ c.effects_of-effects.ensures c.loop-e.invariant c.loop-e-test.true
-    c.effect_word.ensures c.flag.ensures c.if-not-flag.true
+    c.effect_word.ensures c.flag.ensures (ap not c.if-not-flag.true)
 
 pub loop-e-preserved : goal.loop-e-preserved
 unfolding record_at
 loop-e-preserved c = one_flagged c.requires.accepted c.requires.o_lt_operations _ c.effects_of-effects.ensures c.loop-e.invariant c.loop-e-test.true
-    c.effect_word.ensures c.flag.ensures c.if-not-flag.false
+    c.effect_word.ensures c.flag.ensures (ap not c.if-not-flag.false)
 
 pub returns : goal.returns
 returns c = all_flagged c.requires.accepted c.requires.o_lt_operations _ c.effects_of-effects.ensures c.loop-e.invariant c.loop-e-test.false
