@@ -67,7 +67,7 @@ module _ (s : List ℤ) (h : Header) (groups : good_groups s h ≡ true) (good :
       ∙ ap (sum_below (λ k. (operation s h k).w3)) (omega arith))
 
   pub first_start : 0 < h.operations → (operation s h 0).w2 ≡ 0
-  first_start l = starts 0 l ∙ Rattle.tables.proofs.Scans.sum-zero (λ k. (operation s h k).w3)
+  first_start l = starts 0 l ∙ Rattle.tables.proofs.Scans.sum_zero (λ k. (operation s h k).w3)
 
   pub last_end : (o : ℕ) → o + 1 ≡ h.operations → effects_end s h o ≡ h.effects
   last_end o e =

@@ -3,6 +3,8 @@ use Rattle.tables.proofs.Bools.{not_flip}
 use native.Mathlib.Omega.{arith}
 use mathlib.Core.Path.{refl}
 use Prim.Native.Nat.{◌-◌}
+use mathlib.Core.Bool.{not}
+use mathlib.Core.Path.{ap}
 use Rattle.sheet_effects.proofs.check_group.Goals as goal
 
 pub loop-e-init : goal.loop-e-init
@@ -46,7 +48,7 @@ pub returns-then-not-good_change-unused : goal.returns-then-not-good_change-unus
 returns-then-not-good_change-unused c = stopped c.loop-e.invariant c.loop-e-test.true
     (stop_first _ _ _ _ _ _ _ _ _ _ c.requires.0 c.requires.1 c.loop-e.invariant c.loop-e-test.true
     c.first_effect-base.ensures c.record_at-r.ensures c.good_change.ensures c.unused.ensures
-    c.good_outcome-good.ensures (not_flip _ c.if-not-good_change-unused.true))
+    c.good_outcome-good.ensures (not_flip _ (ap not c.if-not-good_change-unused.true)))
 
 pub overflow_mul-stamp : goal.overflow_mul-stamp
 overflow_mul-stamp c = omega (arith, c.requires.1.here, c.requires.0.sized.limits.operations)
@@ -87,7 +89,7 @@ pub returns-then-not-fresh : goal.returns-then-not-fresh
 returns-then-not-fresh c = stopped c.loop-e.invariant c.loop-e-test.true
     (stop_second _ _ _ _ _ _ _ _ _ _ c.requires.0 c.requires.1 c.loop-e.invariant c.loop-e-test.true
     c.first_effect-base.ensures c.record_at-r.ensures c.good_change.ensures c.unused.ensures
-    c.good_outcome-good.ensures (c.if-not-good_change-unused.false) refl c.fresh.ensures (not_flip _ c.if-not-fresh.true))
+    c.good_outcome-good.ensures (c.if-not-good_change-unused.false) refl c.fresh.ensures (not_flip _ (ap not c.if-not-fresh.true)))
 
 pub overflow_mul-q : goal.overflow_mul-q
 overflow_mul-q c = let z = flagged _ _ _ _ _ _ _ _ _ _ c.requires.0 c.requires.1 c.loop-e.invariant c.loop-e-test.true

@@ -2,7 +2,6 @@ use mathlib.Core.Path.{sym, ◌∙◌}
 use Prim.Native.Nat.{◌-◌}
 use native.Mathlib.Numerals.{add-one}
 use native.Mathlib.Omega.{arith}
-use Rattle.tables.proofs.Bools.{not_flip}
 use Rattle.tables.proofs.Scanned.{fail_at, fail_none}
 use Rattle.records.specs.Nodes.{good_node}
 use Rattle.sheet_nodes.proofs.Turns.{begin, finish}
@@ -17,7 +16,7 @@ take_node-requires c = record { begun = c.requires.0; exists = c.loop-n-test.tru
 pub shape_of-lows-then-not-take_node : goal.shape_of-lows-then-not-take_node
 shape_of-lows-then-not-take_node c = omega (
   arith,
-  c.take_node.auto.lows.1.1.0,
+  c.take_node.auto.lows,
   c.loop-n.invariant.1.low_long,
   (begin c.args.s.now c.args.h c.requires.1).low_long,
 )
@@ -25,7 +24,7 @@ shape_of-lows-then-not-take_node c = omega (
 pub shape_of-highs-then-not-take_node : goal.shape_of-highs-then-not-take_node
 shape_of-highs-then-not-take_node c = omega (
   arith,
-  c.take_node.auto.lows.1.1.1.0,
+  c.take_node.auto.highs,
   c.loop-n.invariant.1.high_long,
   (begin c.args.s.now c.args.h c.requires.1).high_long,
 )
@@ -33,7 +32,7 @@ shape_of-highs-then-not-take_node c = omega (
 pub shape_of-sorts-then-not-take_node : goal.shape_of-sorts-then-not-take_node
 shape_of-sorts-then-not-take_node c = omega (
   arith,
-  c.take_node.auto.lows.1.1.1.1.0,
+  c.take_node.auto.sorts,
   c.loop-n.invariant.1.sort_long,
   (begin c.args.s.now c.args.h c.requires.1).sort_long,
 )
@@ -41,7 +40,7 @@ shape_of-sorts-then-not-take_node c = omega (
 pub shape_of-tops-then-not-take_node : goal.shape_of-tops-then-not-take_node
 shape_of-tops-then-not-take_node c = omega (
   arith,
-  c.take_node.auto.lows.1.1.1.1.1.0,
+  c.take_node.auto.tops,
   c.loop-n.invariant.1.top_long,
   (begin c.args.s.now c.args.h c.requires.1).top_long,
 )
@@ -49,7 +48,7 @@ shape_of-tops-then-not-take_node c = omega (
 pub shape_of-scopes-then-not-take_node : goal.shape_of-scopes-then-not-take_node
 shape_of-scopes-then-not-take_node c = omega (
   arith,
-  c.take_node.auto.lows.1.1.1.1.1.1.0,
+  c.take_node.auto.scopes,
   c.loop-n.invariant.1.scope_long,
   (begin c.args.s.now c.args.h c.requires.1).scope_long,
 )
@@ -57,7 +56,7 @@ shape_of-scopes-then-not-take_node c = omega (
 pub shape_of-named-then-not-take_node : goal.shape_of-named-then-not-take_node
 shape_of-named-then-not-take_node c = omega (
   arith,
-  c.take_node.auto.lows.1.1.1.1.1.1.1.0,
+  c.take_node.auto.named,
   c.loop-n.invariant.1.name_long,
   (begin c.args.s.now c.args.h c.requires.1).name_long,
 )
@@ -65,22 +64,15 @@ shape_of-named-then-not-take_node c = omega (
 pub returns-then-not-take_node : goal.returns-then-not-take_node
 returns-then-not-take_node c = record {
   value = fail_at (good_node c.args.s.now c.args.h) _ _ c.loop-n-test.true c.loop-n.invariant.1.good
-      (sym c.take_node.ensures.judged ∙ not_flip _ c.if-not-take_node.true);
+      (sym c.take_node.ensures.judged ∙ c.if-not-take_node.true);
   filled = λ l. absurd (omega (arith, c.loop-n-test.true));
 }
 
 pub overflow_add-n : goal.overflow_add-n
-overflow_add-n c = let at-take-node-arg3 = c
-    in
-    let at-loop-test = at-take-node-arg3.before.before.before in
-    let at-start = at-loop-test.before.before.before.before.before.before in
-    omega (arith, at-loop-test.loop-test.taken, at-start.pre.0.sized.limits.nodes)
+overflow_add-n c = omega (arith, c.loop-n-test.true, c.requires.0.sized.limits.nodes)
 
 pub loop-n-smaller : goal.loop-n-smaller
-loop-n-smaller c = let at-take-node-arg3 = c
-    in
-    let at-loop-test = at-take-node-arg3.before.before.before in
-    omega (arith, at-loop-test.loop-test.taken)
+loop-n-smaller c = omega (arith, c.loop-n-test.true)
 
 pub loop-n-preserved : goal.loop-n-preserved
 loop-n-preserved c = (omega (arith, c.loop-n-test.true), rw add-one (c.take_node.ensures.filled (c.if-not-take_node.false)))

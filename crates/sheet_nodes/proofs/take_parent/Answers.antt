@@ -1,4 +1,5 @@
 -- `sheet_nodes::take_parent` meets its contract. Assumes nothing.
+use borrow.Author.Tests.{not-false}
 use mathlib.Core.Path.{refl}
 use Rattle.signed.proofs.Fit.{back_of}
 use Rattle.tables.proofs.Bools.{not_flip, true_false}
@@ -8,7 +9,7 @@ use Rattle.sheet_nodes.proofs.take_parent.Goals as goal
 pub returns-then-not-linked : goal.returns-then-not-linked
 returns-then-not-linked c = record {
   judged = stop_linked _ _ _ c.requires.turn.0 c.args.c c.requires.turn.1 c.linked.ensures
-      (not_flip _ c.if-not-linked.true);
+      (c.if-not-linked.true);
   filled = λ e. absurd (true_false e refl);
 }
 
@@ -27,13 +28,13 @@ returns-then-not-found c = record {
 
 pub scope_of-scope-requires : goal.scope_of-scope-requires
 scope_of-scope-requires c = scopes_inside _ _ _ c.requires.turn.0 c.args.c c.requires.turn.1 c.linked.ensures (c.if-not-linked.false)
-    c.judge_joint-found.ensures (c.if-not-found.false)
+    c.judge_joint-found.ensures (not-false _ c.if-not-found.false)
     (rw (back_of c.args.w.w1 c.struct_told-1.given.1.0.1) at c.num.ensures)
 
 pub returns-then-scope-eq-NESTED : goal.returns-then-scope-eq-NESTED
 returns-then-scope-eq-NESTED c = record {
   judged = stop_nested _ _ _ c.requires.turn.0 c.args.c c.requires.turn.1 c.linked.ensures
-      (c.if-not-linked.false) c.judge_joint-found.ensures (c.if-not-found.false)
+      (c.if-not-linked.false) c.judge_joint-found.ensures (not-false _ c.if-not-found.false)
       (parent_scope _ _ _ c.requires.turn.0 c.args.c c.requires.turn.1 c.requires.fact
       (rw (back_of c.args.w.w1 c.struct_told-1.given.1.0.1) at c.num.ensures)
       c.scope_of-scope.ensures) c.if-scope-eq-NESTED.true;
@@ -45,14 +46,14 @@ top_of-top-requires c = tops_inside _ _ _ c.requires.turn.0 c.args.c c.requires.
 
 pub keep_item-requires : goal.keep_item-requires
 keep_item-requires c = storable _ _ _ c.requires.turn.0 c.args.c c.requires.turn.1 c.linked.ensures (c.if-not-linked.false)
-    c.judge_joint-found.ensures (c.if-not-found.false)
+    c.judge_joint-found.ensures (not-false _ c.if-not-found.false)
     (parent_scope _ _ _ c.requires.turn.0 c.args.c c.requires.turn.1 c.requires.fact
     (rw (back_of c.args.w.w1 c.struct_told-1.given.1.0.1) at c.num.ensures) c.scope_of-scope.ensures)
     c.if-scope-eq-NESTED.false
 
 pub keep_byte-requires : goal.keep_byte-requires
 keep_byte-requires c = top_room _ _ _ c.requires.turn.0 c.args.c c.requires.turn.1 c.linked.ensures (c.if-not-linked.false)
-    c.judge_joint-found.ensures (c.if-not-found.false)
+    c.judge_joint-found.ensures (not-false _ c.if-not-found.false)
     (parent_scope _ _ _ c.requires.turn.0 c.args.c c.requires.turn.1 c.requires.fact
     (rw (back_of c.args.w.w1 c.struct_told-1.given.1.0.1) at c.num.ensures) c.scope_of-scope.ensures)
     c.if-scope-eq-NESTED.false
@@ -60,7 +61,7 @@ keep_byte-requires c = top_room _ _ _ c.requires.turn.0 c.args.c c.requires.turn
 
 pub keep_byte-requires-2 : goal.keep_byte-requires-2
 keep_byte-requires-2 c = scope_room _ _ _ c.requires.turn.0 c.args.c c.requires.turn.1 c.linked.ensures (c.if-not-linked.false)
-    c.judge_joint-found.ensures (c.if-not-found.false)
+    c.judge_joint-found.ensures (not-false _ c.if-not-found.false)
     (parent_scope _ _ _ c.requires.turn.0 c.args.c c.requires.turn.1 c.requires.fact
     (rw (back_of c.args.w.w1 c.struct_told-1.given.1.0.1) at c.num.ensures) c.scope_of-scope.ensures)
     c.if-scope-eq-NESTED.false
@@ -68,7 +69,7 @@ keep_byte-requires-2 c = scope_room _ _ _ c.requires.turn.0 c.args.c c.requires.
 pub returns : goal.returns
 returns c = record {
   judged = good_is_true _ _ _ c.requires.turn.0 c.args.c c.requires.turn.1 c.linked.ensures
-      (c.if-not-linked.false) c.judge_joint-found.ensures (c.if-not-found.false)
+      (c.if-not-linked.false) c.judge_joint-found.ensures (not-false _ c.if-not-found.false)
       (parent_scope _ _ _ c.requires.turn.0 c.args.c c.requires.turn.1 c.requires.fact
       (rw (back_of c.args.w.w1 c.struct_told-1.given.1.0.1) at c.num.ensures)
       c.scope_of-scope.ensures) c.if-scope-eq-NESTED.false
@@ -81,7 +82,7 @@ returns c = record {
     c.keep_byte-2.ensures,
     c.name_children.ensures,
   ) (more _ _ _ c.requires.turn.0 c.args.c c.requires.turn.1 c.linked.ensures (c.if-not-linked.false)
-      c.judge_joint-found.ensures (c.if-not-found.false)
+      c.judge_joint-found.ensures (not-false _ c.if-not-found.false)
       (parent_scope _ _ _ c.requires.turn.0 c.args.c c.requires.turn.1 c.requires.fact
       (rw (back_of c.args.w.w1 c.struct_told-1.given.1.0.1) at c.num.ensures)
       c.scope_of-scope.ensures) c.if-scope-eq-NESTED.false
