@@ -1,78 +1,19 @@
--- `predicate::evaluate` meets its contract, and ends: the node number falls. Assumes nothing.
 use mathlib.Core.Path.{sym, ◌∙◌}
 use native.Mathlib.Omega.{arith}
 use Rattle.tables.proofs.Elements.{rest_zero}
 use Rattle.words.specs.Record.{words_at}
-use Rattle.layout.specs.Header.{header_of}
 use Rattle.signed.proofs.Fit.{back_of}
-use Rattle.facts.specs.Inner.{held}
-use Rattle.kinds.proofs.SweepLaws.{Swept, swept_more, swept_stop, swept_end}
+use Rattle.kinds.proofs.SweepLaws.{swept_more, swept_stop, swept_end}
 use Rattle.tree.proofs.TreeLaws.{held as held-node, first_before, second_before}
-use Rattle.predicate.specs.Units.{seconds_of}
 use Rattle.predicate.proofs.BaseLaws.{there}
 use Rattle.predicate.proofs.EvaluationLaws.{by_none, by_one, by_two, by_first, first_at, second_at, sweep_at, sweep_is}
-use Prim.Native.Nat.{ℕ, ◌-◌, ◌<◌}
-use borrow.Fn.Kinds.{In}
-use borrow.Fn.PlainCycle.{Measures, is, falls, and}
-use Rattle.predicate.proofs.evaluate.Reads as evaluate
-use Rattle.predicate.proofs.evaluate.Kinds as evaluate-kinds
-use Rattle.predicate.proofs.+evaluate.Lts-evaluate as evaluate-lts
-use Rattle.kinds.proofs.bit.Reads as bit-reads
-use Rattle.kinds.proofs.decides.Reads as decides-reads
-use Rattle.kinds.proofs.quantifies.Reads as quantifies-reads
-use Rattle.kinds.proofs.settles.Reads as settles-reads
-use Rattle.predicate.proofs.elements_of.Reads as elements-of-reads
-use Rattle.predicate.proofs.joint_at.Reads as joint-at-reads
-use Rattle.predicate.proofs.leaf_at.Reads as leaf-at-reads
-use Rattle.tree.proofs.kids_at.Reads as kids-at-reads
-use Rattle.words.proofs.number.Reads as number-reads
+use Prim.Native.Nat.{◌-◌}
+use borrow.Fn.PlainCycle.{is}
 use Rattle.predicate.proofs.+evaluate.Goals as goal
 
-abbrev μ-evaluate : Measures 4 evaluate-kinds.ps ℕ
-μ-evaluate κs a = a.1.1.1.1.1.0.0
-
-abbrev evaluate-at : ℕ → In 4 evaluate-kinds.ps
-evaluate-at t = and 4 evaluate-kinds.ps (is 4 evaluate-kinds.ps μ-evaluate t) evaluate.Pre
-
-abbrev evaluate-below : ℕ → In 4 evaluate-kinds.ps
-evaluate-below t = and 4 evaluate-kinds.ps (falls 4 evaluate-kinds.ps ◌<◌ μ-evaluate t) evaluate.Pre
-
--- what the calls ask and give
-abbrev calls : ℕ → evaluate-lts.Claims
-calls t = (
-  kids-at-reads.Asked,
-  kids-at-reads.Learnt,
-  leaf-at-reads.Asked,
-  leaf-at-reads.Learnt,
-  number-reads.Asked,
-  number-reads.Learnt,
-  quantifies-reads.Asked,
-  quantifies-reads.Learnt,
-  elements-of-reads.Asked,
-  elements-of-reads.Learnt,
-  evaluate-below t,
-  evaluate.Post,
-  settles-reads.Asked,
-  settles-reads.Learnt,
-  bit-reads.Asked,
-  bit-reads.Learnt,
-  joint-at-reads.Asked,
-  joint-at-reads.Learnt,
-  decides-reads.Asked,
-  decides-reads.Learnt,
-)
-
--- none of the elements so far decides
-abbrev evaluate-Inv-loop : evaluate-lts.invariant-loop
-evaluate-Inv-loop s base facts lists verdicts at k c exists first count j₀ j =
-    Swept exists (seconds_of s (header_of s) (held s facts lists) verdicts c.first) lists first count j
-
-abbrev evaluate-μ-loop : evaluate-lts.decreases-loop
-evaluate-μ-loop s base facts lists verdicts at k c exists first count j₀ j = count - j
-
 pub leaf_at-requires : goal.leaf_at-requires
-leaf_at-requires t c = let both = let m = by_none c.requires _ c.kids_at-c.ensures c.if-c-eq0.true in
-    ((m.based, held-node (there c.requires)), (m.able, m.reads)) in record { base_of = both.0; leaf_at = both.1 }
+leaf_at-requires t c = let m = by_none c.requires _ c.kids_at-c.ensures c.if-c-eq0.true in
+    record { base_of = (m.based, held-node (there c.requires)); leaf_at = (m.able, m.reads) }
 
 pub returns-then-c-eq0 : goal.returns-then-c-eq0
 returns-then-c-eq0 t c = back_of c.leaf_at.result c.leaf_at.type_inv
