@@ -19,13 +19,7 @@ pub bounds-path-at : goal.bounds-path-at
 bounds-path-at c = descend_room c.loop-w.invariant c.loop-w-test.true
 
 pub take-w-requires : goal.take-w-requires
-take-w-requires c = let both = (
-  c.requires.sheet.sized,
-  (
-    descend_route c.loop-w.invariant c.loop-w-test.true _ c.first_route-route.ensures,
-    omega (arith, descend_room c.loop-w.invariant c.loop-w-test.true, c.loop-w.invariant.size),
-  ),
-) in record { sized = both.0; route_lt_routes = both.1; length_bound = both.2 }
+take-w-requires c = record { sized = c.requires.sheet.sized; route_lt_routes = descend_route c.loop-w.invariant c.loop-w-test.true _ c.first_route-route.ensures; length_bound = omega (arith, descend_room c.loop-w.invariant c.loop-w-test.true, c.loop-w.invariant.size) }
 
 pub loop-w-smaller : goal.loop-w-smaller
 loop-w-smaller c = descend_less c.loop-w.invariant c.loop-w-test.true c.first_route-route.ensures c.take-w.ensures

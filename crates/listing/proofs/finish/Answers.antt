@@ -10,7 +10,7 @@ pub clear-requires : goal.clear-requires
 clear-requires c = finish_room _ c.requires c.descend-w.ensures.value c.descend-w.ensures.path_after
 
 pub shape_of-path : goal.shape_of-path
-shape_of-path c = c.clear.auto.path ∙ c.descend-w.auto.from.1.1.0
+shape_of-path c = c.clear.auto.path ∙ c.descend-w.auto.path
 
 pub returns : goal.returns
 returns c = let both = finish_done _ c.requires c.descend-w.ensures.value c.descend-w.ensures.path_after c.clear.ensures in record { value = both.0; path_after = both.1 }

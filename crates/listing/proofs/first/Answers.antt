@@ -10,7 +10,7 @@ pub finish-requires : goal.finish-requires
 finish-requires c = rw c.start-w.ensures (start_going c.requires)
 
 pub shape_of-path : goal.shape_of-path
-shape_of-path c = c.finish.auto.from.1.1.0
+shape_of-path c = c.finish.auto.path
 
 pub returns : goal.returns
 returns c = let both = first_done c.requires c.start-w.ensures c.finish.ensures.value c.finish.ensures.path_after in record { value = both.0; path_after = both.1 }

@@ -31,10 +31,7 @@ pub bounds-path-at-in-Turn : goal.bounds-path-at-in-Turn
 bounds-path-at-in-Turn c = turn_room c.seek.ensures c.in-Turn.is
 
 pub take-requires : goal.take-requires
-take-requires c = let both = (
-  c.requires.sheet.sized,
-  (omega (arith, turn_route_lem c.seek.ensures c.in-Turn.is), omega (arith, turn_room c.seek.ensures c.in-Turn.is)),
-) in record { sized = both.0; route_lt_routes = both.1; length_bound = both.2 }
+take-requires c = record { sized = c.requires.sheet.sized; route_lt_routes = omega (arith, turn_route_lem c.seek.ensures c.in-Turn.is); length_bound = omega (arith, turn_room c.seek.ensures c.in-Turn.is) }
 
 pub finish-requires : goal.finish-requires
 finish-requires c = turn_going c.seek.ensures c.in-Turn.is c.take.ensures
@@ -52,7 +49,7 @@ pub returns-in-Last : goal.returns-in-Last
 returns-in-Last c = let both = next_last c.seek.ensures c.in-Last.is in record { value = both.0; path_after = both.1 }
 
 pub shape_of-path-in-Turn : goal.shape_of-path-in-Turn
-shape_of-path-in-Turn c = c.finish.auto.from.1.1.0 ∙ simp length-set
+shape_of-path-in-Turn c = c.finish.auto.path ∙ simp length-set
 
 pub returns-in-Turn : goal.returns-in-Turn
 returns-in-Turn c = let both = next_done c.seek.ensures c.in-Turn.is c.take.ensures c.finish.ensures.value c.finish.ensures.path_after in record { value = both.0; path_after = both.1 }

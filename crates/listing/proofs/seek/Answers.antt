@@ -5,6 +5,7 @@ use Prim.Native.Nat.{◌-◌}
 use mathlib.Core.Logic.{inl, inr, ⊎_elim}
 use native.Mathlib.Omega.{arith}
 use Rattle.listing.proofs.seek.Goals as goal
+use Rattle.listing.proofs.seek.Goals.{then-route-end, else-route-end}
 
 pub start-w-requires : goal.start-w-requires
 start-w-requires c = record { sized = c.requires.sheet.sized; flow_lt_flows = c.requires.flow }
@@ -52,13 +53,7 @@ overflow_add-route c = omega (
 )
 
 pub take-w-requires : goal.take-w-requires
-take-w-requires c = let both = (
-  c.requires.sheet.sized,
-  (
-    omega (arith, seek_sum c.loop-w.invariant c.loop-w-test.true c.first_route-first.ensures c.routes.ensures),
-    omega (arith, seek_room c.loop-w.invariant c.loop-w-test.true),
-  ),
-) in record { sized = both.0; route_lt_routes = both.1; length_bound = both.2 }
+take-w-requires c = record { sized = c.requires.sheet.sized; route_lt_routes = omega (arith, seek_sum c.loop-w.invariant c.loop-w-test.true c.first_route-first.ensures c.routes.ensures); length_bound = omega (arith, seek_room c.loop-w.invariant c.loop-w-test.true) }
 
 pub loop-w-smaller : goal.loop-w-smaller
 loop-w-smaller c = seek_less c.loop-w.invariant c.loop-w-test.true c.first_route-first.ensures c.routes.ensures c.if-route-first.false
@@ -66,7 +61,7 @@ loop-w-smaller c = seek_less c.loop-w.invariant c.loop-w-test.true c.first_route
 
 pub loop-w-preserved : goal.loop-w-preserved
 loop-w-preserved c = seek_more c.loop-w.invariant c.loop-w-test.true c.first_route-first.ensures c.routes.ensures c.if-route-first.false
-    c.if-end-route.false c.take-w.ensures (⊎_elim (λ x. inl (x.0.taken, x.1)) (λ x. inr (x.0.left, x.1)) c.if-route-end.branch)
+    c.if-end-route.false c.take-w.ensures (elim c.if-route-end.branch [ then-route-end w ↦ inl (w.if-route-end.true, w.turn-is) | else-route-end w ↦ inr (w.if-route-end.false, w.turn-is) ])
 
 pub returns : goal.returns
 returns c = sought c.requires c.start-w.ensures (seek_done c.loop-w.invariant c.loop-w-test.false) c.loop-w.invariant.can
