@@ -11,7 +11,7 @@ pub scan_moves-requires : goal.scan_moves-requires
 scan_moves-requires c = ((c.requires.ready.0.later (omega (arith, c.if-scans-eq0.false))).long, c.requires.accepted.1, c.requires.ready.1)
 
 pub returns-then-scans-eq0 : goal.returns-then-scans-eq0
-returns-then-scans-eq0 c = let both = (omega (arith, c.if-scans-eq0.true), c.scan_sheet.ensures) in record { value = both.0; kept = both.1; spread = both.2 }
+returns-then-scans-eq0 c = record { value = omega (arith, c.if-scans-eq0.true); kept = c.scan_sheet.ensures.kept; spread = c.scan_sheet.ensures.spread }
 
 pub returns-else-scans-eq0 : goal.returns-else-scans-eq0
 returns-else-scans-eq0 c = let kept = c.requires.ready.0.later (omega (arith, c.if-scans-eq0.false)) in

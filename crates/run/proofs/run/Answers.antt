@@ -63,4 +63,4 @@ pub shape_of-path : goal.shape_of-path
 shape_of-path c = c.clear.auto.path ∙ c.loop-w.invariant.0.size
 
 pub returns : goal.returns
-returns c = let both = run_done c.requires.runnable c.start-w.ensures c.loop-w.invariant.0 c.loop-w-test.false c.clear.ensures in record { value = both.0; path_after = both.1; states_after = both.2 }
+returns c = let both = run_done c.requires.runnable c.start-w.ensures c.loop-w.invariant.0 c.loop-w-test.false c.clear.ensures in record { value = both.0; path_after = both.1.0; states_after = both.1.1 }
