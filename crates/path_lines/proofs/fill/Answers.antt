@@ -37,7 +37,7 @@ loop-c-smaller c = filling_less c.loop-c.invariant c.loop-c-test.true c.if-out-n
 
 pub loop-c-preserved : goal.loop-c-preserved
 loop-c-preserved c = filling_more c.loop-c.invariant c.loop-c-test.true c.if-out-n-lt-LONGEST_LINE.false c.put_line-n.ensures.0 c.put_line-n.ensures.1
-    c.advance-c.ensures c.advance-c.auto.cursor.1.1.0
+    c.advance-c.ensures c.advance-c.auto.path
 
 pub shape_of-path : goal.shape_of-path
 shape_of-path c = c.loop-c.invariant.wide

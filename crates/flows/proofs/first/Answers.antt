@@ -1,0 +1,17 @@
+-- `flows::first` meets its contract: by where its climb stops. Assumes nothing.
+use Rattle.signed.proofs.Fit.{back}
+use Rattle.ladder.proofs.ClimbLaws.{stopped, worked}
+use Rattle.flows.proofs.FlowCallLaws.{flow_lent}
+use Rattle.flows.proofs.first.Goals as goal
+
+pub first-requires : goal.first-requires
+first-requires c = rw c.num.ensures (flow_lent _ _ _ c.climb_flow.ensures c.in-At.is)
+
+pub returns-in-Stopped : goal.returns-in-Stopped
+returns-in-Stopped c = let e = rw (back c.ranges.flow) at c.climb_flow.ensures in
+    record { value = stopped _ _ e c.in-Stopped.is; path_after = stopped _ _ e c.in-Stopped.is }
+
+pub returns-in-At : goal.returns-in-At
+returns-in-At c = let e = rw (back c.ranges.flow) at c.climb_flow.ensures in
+    let w = rw (c.num.ensures, back c.ranges.flow) at c.first.ensures in
+    record { value = worked _ _ e c.in-At.is w.0; path_after = worked _ _ e c.in-At.is w.1 }
