@@ -13,5 +13,6 @@ returns-in-Stopped c = let e = rw (back c.ranges.flow) at c.climb_flow.ensures i
 
 pub returns-in-At : goal.returns-in-At
 returns-in-At c = let e = rw (back c.ranges.flow) at c.climb_flow.ensures in
-    let w = rw (c.num.ensures, back c.ranges.flow) at c.next.ensures in
-    record { value = worked _ _ e c.in-At.is w.0; path_after = worked _ _ e c.in-At.is w.1 }
+    let w_value = rw (c.num.ensures, back c.ranges.flow) at c.next.ensures.value in
+    let w_path_after = rw (c.num.ensures, back c.ranges.flow) at c.next.ensures.path_after in
+    record { value = worked _ _ e c.in-At.is w_value; path_after = worked _ _ e c.in-At.is w_path_after }

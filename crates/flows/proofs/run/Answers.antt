@@ -30,5 +30,7 @@ returns-in-Stopped c = let e = rw (back c.ranges.flow) at c.climb_run.ensures.va
 
 pub returns-in-At : goal.returns-in-At
 returns-in-At c = let e = rw (back c.ranges.flow) at c.climb_run.ensures.value in
-    let w = rw (c.num.ensures, back c.ranges.flow) at c.go_on_named.ensures in
-    record { value = worked _ _ e c.in-At.is w.0; path_after = worked _ _ e c.in-At.is w.1.0; rs_after = worked _ _ e c.in-At.is w.1.1 }
+    let w_value = rw (c.num.ensures, back c.ranges.flow) at c.go_on_named.ensures.value in
+    let w_path_after = rw (c.num.ensures, back c.ranges.flow) at c.go_on_named.ensures.path_after in
+    let w_rs_after = rw (c.num.ensures, back c.ranges.flow) at c.go_on_named.ensures.rs_after in
+    record { value = worked _ _ e c.in-At.is w_value; path_after = worked _ _ e c.in-At.is w_path_after; rs_after = worked _ _ e c.in-At.is w_rs_after }

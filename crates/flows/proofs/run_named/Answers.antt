@@ -23,13 +23,13 @@ returns-then-not-exists c = record {
 }
 
 pub good_words-requires : goal.good_words-requires
-good_words-requires c = let both = let e = sym (rw (back c.ranges.flow) at c.exists.ensures)
+good_words-requires c = let e = sym (rw (back c.ranges.flow) at c.exists.ensures)
     ∙ c.if-not-exists.false in
     let k = (c.requires.is_value (c.if-not-long.false)).1 in
-    rw (c.num.ensures, back c.ranges.flow) (
-      (c.requires.accepted.0, ltb-true _ _ e),
-      a_word_each c.args.s.now c.args.h c.args.flow c.args.wanted.now e k,
-    ) in record { accepted = both.0; words_len = both.1 }
+    record {
+      accepted = (c.requires.accepted.0, rw (c.num.ensures, back c.ranges.flow) (ltb-true _ _ e));
+      words_len = rw (c.num.ensures, back c.ranges.flow) (a_word_each c.args.s.now c.args.h c.args.flow c.args.wanted.now e k);
+    }
 
 pub returns-then-not-good_words : goal.returns-then-not-good_words
 returns-then-not-good_words c = let none = rw (c.good_words.ensures, c.num.ensures, back c.ranges.flow)
