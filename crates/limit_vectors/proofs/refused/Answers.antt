@@ -1,5 +1,7 @@
 -- `limit_vectors::refused` meets its contract. Assumes nothing.
 use Rattle.path_lines.proofs.Opening.{refused_short}
+use lib.Seq.{length-take-le}
+use mathlib.Core.Path.{sym}
 use native.Mathlib.Omega.{arith}
 use Rattle.limit_vectors.proofs.refused.Goals as goal
 
@@ -14,3 +16,12 @@ slice_bounds-out-end c = omega (
   c.refusal-n.auto.out,
   c.buffer-out.ensures,
 )
+
+pub slice_bounds-write_all-end-2 : goal.slice_bounds-write_all-end-2
+slice_bounds-write_all-end-2 c = sym (length-take-le _ _ (omega (
+  arith,
+  c.refusal-n.ensures.0,
+  refused_short c.args.r c.requires,
+  c.refusal-n.auto.out,
+  c.buffer-out.ensures,
+)))
