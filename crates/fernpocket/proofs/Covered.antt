@@ -17,7 +17,7 @@ use Rattle.answer.specs.declared.Count.TheVariants.{Is, Refused as NoCount}
 use Rattle.layout.specs.declared.Header.{Header}
 use Rattle.layout.specs.Header.{header_of}
 use Rattle.layout.specs.Tables.{effect}
-use Rattle.records.specs.Entities.{states as stateCount}
+use Rattle.records.specs.Entities.{states as state_count}
 use Rattle.records.proofs.OperationLaws.{effect_ok}
 use Rattle.operation.specs.Outcomes.{wanted_of}
 use Rattle.operation.specs.States.{present}
@@ -102,23 +102,23 @@ module _ (s : List ℤ) (lent : LentFacts) (q : LentStates) (p o v : ℤ) where
   attempt_ready e = attemptable (made_asked e) refl refl
 
   module _ (n : ℕ) (l : n < (header_of s).entities) where
-    state_named : (a : ℕ) → a < stateCount s (header_of s) n → state_exists s (header_of s) (pos n) (pos a) ≡ true
+    state_named : (a : ℕ) → a < state_count s (header_of s) n → state_exists s (header_of s) (pos n) (pos a) ≡ true
     unfolding state_exists
-    state_named a k = rw (num_of n, num_of a, lt-ltb n (header_of s).entities l, lt-ltb a (stateCount s (header_of s) n) k)
+    state_named a k = rw (num_of n, num_of a, lt-ltb n (header_of s).entities l, lt-ltb a (state_count s (header_of s) n) k)
 
     -- S3a answers yes for state a of entity n, and S4 for its change to b
     abbrev pub Yes : ℕ → ℕ → Type 0
     Yes a b = (admissible_answer s (pos n) (pos a) p o ≡ Is 1) × (can_cause_answer s p (pos n) (pos a) (pos b) ≡ Is 1)
 
     module _ (e : Made) where
-      a_state : present states n < stateCount s (header_of s) n
+      a_state : present states n < state_count s (header_of s) n
       a_state = (made_asked e).lent.each n l
 
-      b_state : present then n < stateCount s (header_of s) n
+      b_state : present then n < state_count s (header_of s) n
       b_state = (attempted_in (attempt_ready e) (wanted_of v)).each n l
 
       -- what S3a and S4 say, as their reports answer it
-      admissible_yes : (a : ℕ) → a < stateCount s (header_of s) n → admissible s (header_of s) n a (num p) (num o) ≡ true
+      admissible_yes : (a : ℕ) → a < state_count s (header_of s) n → admissible s (header_of s) n a (num p) (num o) ≡ true
           → admissible_answer s (pos n) (pos a) p o ≡ Is 1
       admissible_yes a k y =
           let persona = lt-ltb (num p) (header_of s).personas (made_asked e).persona in
@@ -126,7 +126,7 @@ module _ (s : List ℤ) (lent : LentFacts) (q : LentStates) (p o v : ℤ) where
           report_exists s (admissible_numbers s (pos n) (pos a) p o) _ (made_sheet e) (rw (state_named a k, persona, operation))
           ∙ rw (num_of n, num_of a, y)
 
-      cause_yes : (a b : ℕ) → a < stateCount s (header_of s) n → b < stateCount s (header_of s) n → can_cause s (header_of s) (num p) n a b ≡ true
+      cause_yes : (a b : ℕ) → a < state_count s (header_of s) n → b < state_count s (header_of s) n → can_cause s (header_of s) (num p) n a b ≡ true
           → can_cause_answer s p (pos n) (pos a) (pos b) ≡ Is 1
       cause_yes a b k m y =
           report_exists s (cause_numbers s p (pos n) (pos a) (pos b)) _ (made_sheet e)

@@ -41,7 +41,7 @@ use Rattle.operation.specs.Outcomes.{moves, applicable}
 use Rattle.operation.proofs.Movers.{moves_true}
 use Rattle.instances.specs.Records.{LentStates, count, entity_at, state_at}
 use Rattle.walks.specs.Paths.{paths, WholeList}
-use Rattle.listing.specs.Lists.{Call, First, nexts, count as pathCount}
+use Rattle.listing.specs.Lists.{Call, First, nexts, count as path_count}
 use Rattle.walks.proofs.OnlyList.{paths_whole, only_list}
 use Rattle.reach.specs.Reached.{Reached, states_in}
 use Rattle.calls.specs.Evaluation.{assemble_answer, assemble_values, verdicts_answer, verdicts_verdicts, operate_answer, operate_states}
@@ -250,27 +250,27 @@ module _ (s : List ℤ) (a : (status_answer (checked s)).refusal ≡ pos 0) (fac
 -- ---- demand 2: the text of a sheet
 
 -- A text that was read, written again with room enough, is the same bytes.
-pub read_then_write : (text : List ℕ) (lentWords : List ℤ) (n : ℕ) (lentText : List ℕ)
-    → Went (count_answer (read_answer text (length lentWords))) n
-    → length text ≤ length lentText
-    → (count_answer (write_answer (take n (read_buffer text lentWords)) (length lentText)) ≡ done_answer (length text) 0)
-    × (take (length text) (write_buffer (take n (read_buffer text lentWords)) lentText) ≡ text)
-read_then_write text lentWords n lentText w r =
-    let again = text_again text lentWords n lentText (went_is (read_answer text (length lentWords)) w) r in
+pub read_then_write : (text : List ℕ) (lent_words : List ℤ) (n : ℕ) (lent_text : List ℕ)
+    → Went (count_answer (read_answer text (length lent_words))) n
+    → length text ≤ length lent_text
+    → (count_answer (write_answer (take n (read_buffer text lent_words)) (length lent_text)) ≡ done_answer (length text) 0)
+    × (take (length text) (write_buffer (take n (read_buffer text lent_words)) lent_text) ≡ text)
+read_then_write text lent_words n lent_text w r =
+    let again = text_again text lent_words n lent_text (went_is (read_answer text (length lent_words)) w) r in
     (ap count_answer again.0, again.1)
 
 -- Whole lines of words in the permitted range, written and read again with room enough, are the same words.
-pub write_then_read : (words : List ℤ) (lentText : List ℕ) (lentWords : List ℤ)
+pub write_then_read : (words : List ℤ) (lent_text : List ℕ) (lent_words : List ℤ)
     → length words % 8 ≡ 0
     → all has_text words ≡ true
-    → length (text_of words) ≤ length lentText
-    → length words ≤ length lentWords
+    → length (text_of words) ≤ length lent_text
+    → length words ≤ length lent_words
     → (n : ℕ)
-    × (count_answer (write_answer words (length lentText)) ≡ done_answer n 0)
-    × (count_answer (read_answer (take n (write_buffer words lentText)) (length lentWords)) ≡ done_answer (length words) 0)
-    × (take (length words) (read_buffer (take n (write_buffer words lentText)) lentWords) ≡ words)
-write_then_read words lentText lentWords whole texts roomText roomWords =
-    let again = words_again words lentText lentWords whole texts roomText roomWords in
+    × (count_answer (write_answer words (length lent_text)) ≡ done_answer n 0)
+    × (count_answer (read_answer (take n (write_buffer words lent_text)) (length lent_words)) ≡ done_answer (length words) 0)
+    × (take (length words) (read_buffer (take n (write_buffer words lent_text)) lent_words) ≡ words)
+write_then_read words lent_text lent_words whole texts room_text room_words =
+    let again = words_again words lent_text lent_words whole texts room_text room_words in
     (again.0, ap count_answer again.1, ap count_answer again.2, again.3)
 
 -- No two texts have the same words.
@@ -302,7 +302,7 @@ module _ {s : List ℤ} {flow : ℤ} {path : List ℕ} (u : FlowReady s flow pat
   -- A first and then nexts until 13 list every path, each once, in the stated order: whatever list has them all so, it is that list.
   pub whole_listing : {ps : List (List ℕ)} → WholeList s (header_of s) (num flow) ps → (k : ℕ) → length ps < k
       → read_to13 s flow k (public_call s flow path First) ≡ ps
-  unfolding pathCount
+  unfolding path_count
   whole_listing {ps} w k l =
       let only : ps ≡ paths s (header_of s) (num flow) = paths_only w in
       read_same u k ∙ (public_whole (listable u) k (rw only at l)).0 ∙ sym only

@@ -13,7 +13,7 @@ use Rattle.answer.specs.declared.Count.TheVariants.{Refused as NoCount}
 use Rattle.answer.specs.declared.Counted.{Counted}
 use Rattle.answer.specs.declared.Counted.TheVariants.{Refused as NoWalk}
 use Rattle.layout.specs.declared.Header.{Header}
-use Rattle.records.specs.Entities.{states as stateCount}
+use Rattle.records.specs.Entities.{states as state_count}
 use Rattle.facts.specs.Lent.{LentFacts}
 use Rattle.facts.specs.Faults.{facts_fault}
 use Rattle.operation.specs.States.{present}
@@ -40,7 +40,7 @@ one_each states = lent_states (one_records states) (grown (λ _ _. pos 0) (pos 0
 -- ---- 8 as it was: "a lent state not among its entity's states", the place being the first such entity
 
 unfoldable pub state_in : List ℤ → Header → List ℤ → ℕ → Bool
-state_in s h states n = ltb (present states n) (stateCount s h n)
+state_in s h states n = ltb (present states n) (state_count s h n)
 
 unfoldable pub first_stray : List ℤ → Header → List ℤ → ℕ
 first_stray s h states = first_fail (state_in s h states) 0 h.entities

@@ -20,7 +20,7 @@ use Rattle.signed.proofs.Numbers.{num_of}
 use Rattle.answer.specs.declared.Status.TheVariants.{Done}
 use Rattle.layout.specs.declared.Header.{Header}
 use Rattle.records.specs.Accepted.{Accepted}
-use Rattle.records.specs.Entities.{states as stateCount}
+use Rattle.records.specs.Entities.{states as state_count}
 use Rattle.records.proofs.OperationLaws.{entity_ok}
 use Rattle.operation.specs.Inner.{StatesIn}
 use Rattle.operation.proofs.Targets.{clear}
@@ -149,8 +149,8 @@ module _ (h : Header) (q : LentStates) {states : List ℤ} {found : List Bool} (
 pub states_in_lem : (s : List ℤ) (h : Header) (q : LentStates) → Accepted s h → records_fault s h q.records ≡ Done → StatesIn s h (gathered h q)
 states_in_lem s h q a done = record { long = gathered_length h q; each = λ e l. rw (gathered_at h q e l) (inside e l) }
   where
-    inside : (e : ℕ) → e < h.entities → num (held q e (count q.records)) < stateCount s h e
+    inside : (e : ℕ) → e < h.entities → num (held q e (count q.records)) < state_count s h e
     inside e l =
-        held_by (λ z. num z < stateCount s h e) q e (count q.records)
+        held_by (λ z. num z < state_count s h e) q e (count q.records)
         (λ i m p. rw (← names_entity q e i p) (record_ok s h q.records i (good_records s h q.records done i m)).state)
         (λ none. rw (num_of 0) (omega (arith, (entity_ok a e l).some)))

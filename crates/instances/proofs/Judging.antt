@@ -19,7 +19,7 @@ use Rattle.answer.specs.declared.Status.TheVariants.{Done, Refused}
 use Rattle.answer.specs.Inner.{Every}
 use Rattle.answer.proofs.Distinct.{refused_done}
 use Rattle.layout.specs.declared.Header.{Header}
-use Rattle.records.specs.Entities.{states as stateCount}
+use Rattle.records.specs.Entities.{states as state_count}
 use Rattle.instances.specs.Records.{count, entity_at, state_at, above, good_record, first_bad, records_fault}
 
 -- ---- one record
@@ -27,7 +27,7 @@ use Rattle.instances.specs.Records.{count, entity_at, state_at, above, good_reco
 -- its entity and its state are in range, and it is the first one or above the one before it
 pub record RecordOk (s : List ℤ) (h : Header) (rs : List ℤ) (i : ℕ) : Type 0 where
   pub entity : entity_at rs i < h.entities
-  pub state : num (state_at rs i) < stateCount s h (entity_at rs i)
+  pub state : num (state_at rs i) < state_count s h (entity_at rs i)
   pub order : (eqb i 0 || above rs (i - 1) i) ≡ true
 
 module _ (s : List ℤ) (h : Header) (rs : List ℤ) (i : ℕ) where
@@ -45,9 +45,9 @@ module _ (s : List ℤ) (h : Header) (rs : List ℤ) (i : ℕ) where
     unfolding good_record
     bad_entity l = rw (le-ltb (entity_at rs i) h.entities (omega arith))
 
-    module _ {n w : ℕ} (inside : e < h.entities) (is_count : n ≡ stateCount s h e) (is_state : w ≡ num (state_at rs i)) where
+    module _ {n w : ℕ} (inside : e < h.entities) (is_count : n ≡ state_count s h e) (is_state : w ≡ num (state_at rs i)) where
       abbrev has_states : ℕ
-      has_states = stateCount s h (entity_at rs i)
+      has_states = state_count s h (entity_at rs i)
 
       count_is : n ≡ has_states
       count_is = rw (← is-entity) is_count

@@ -8,7 +8,7 @@ use Rattle.answer.specs.declared.Refusal.TheVariants.{State}
 use Rattle.answer.specs.declared.Status.{Status}
 use Rattle.answer.specs.declared.Status.TheVariants.{Done, Refused}
 use Rattle.layout.specs.declared.Header.{Header}
-use Rattle.records.specs.Entities.{states as stateCount}
+use Rattle.records.specs.Entities.{states as state_count}
 
 -- what a caller lends of states: the records, and "one instance number per entity"
 pub record LentStates : Type 0 where
@@ -44,7 +44,7 @@ above rs i j =
 unfoldable pub good_record : List ℤ → Header → List ℤ → ℕ → Bool
 good_record s h rs i =
     ltb (entity_at rs i) h.entities
-    && ltb (num (state_at rs i)) (stateCount s h (entity_at rs i))
+    && ltb (num (state_at rs i)) (state_count s h (entity_at rs i))
     && (eqb i 0 || above rs (i - 1) i)
 
 -- the first record that is not, or the number of records where there is none

@@ -3,9 +3,9 @@
 #![tactic(auto)]
 
 ghost use Rattle.std.specs.Prelude.{◌≡◌, true, false, not, ◌&&◌, ◌||◌, ℕ, ◌+◌, ◌%◌, ◌≤◌, ℤ, pos, ◌+ℤ◌, ◌-ℤ◌, ◌*ℤ◌, List, get_or};
-ghost use Rattle.signed.specs.Words.{num as wordNumber};
+ghost use Rattle.signed.specs.Words.{num as word_number};
 ghost use Rattle.signed.specs.Compare.{holds as comparison};
-ghost use Rattle.item.specs.Items.{span as itemSpan};
+ghost use Rattle.item.specs.Items.{span as item_span};
 ghost use Rattle.node.specs.FactValues.{FactValue};
 ghost use Rattle.node.specs.Rows.{bit, is_true, row_of};
 ghost use Rattle.node.specs.Judged.{SmallKids};
@@ -47,7 +47,7 @@ pub fn bit(b: bool) -> i64
 }
 
 fn compare(w: Words, x: i64, y: i64) -> i64
-    ensures { result ≡ bit (comparison (wordNumber w.w1) x y) }
+    ensures { result ≡ bit (comparison (word_number w.w1) x y) }
 {
     bit(holds(num(w.w1), x, y))
 }
@@ -72,22 +72,22 @@ fn not_true(x: i64) -> i64
 
 // The fact or the verdict that word 1 names.
 fn named(t: &[i64], w: Words) -> i64
-    ensures { result ≡ get_or t.now (wordNumber w.w1) (pos 0) }
+    ensures { result ≡ get_or t.now (word_number w.w1) (pos 0) }
 {
     word_entry(t, num(w.w1))
 }
 
 // The type of a literal: t and what word 2 adds.
 fn literal_sort(w: Words, t: usize) -> usize
-    requires { (t ≤ 258) × (wordNumber w.w2 ≤ 127) }
-    ensures { result ≡ t + wordNumber w.w2 }
+    requires { (t ≤ 258) × (word_number w.w2 ≤ 127) }
+    ensures { result ≡ t + word_number w.w2 }
 {
     t + num(w.w2)
 }
 
 // How many elements a list has, from the word that is held for it.
 pub fn count_in(word: i64) -> usize
-    ensures { result ≡ wordNumber word % 128 }
+    ensures { result ≡ word_number word % 128 }
 {
     num(word) % 128
 }
@@ -172,8 +172,8 @@ pub fn settles(exists: bool, x: i64) -> bool
 
 // The type and range of a literal.
 fn literal_range(w: Words, t: usize) -> Item
-    requires { (t ≤ 258) × (wordNumber w.w2 ≤ 127) }
-    ensures { result ≡ itemSpan (t + wordNumber w.w2) w.w1 w.w1 }
+    requires { (t ≤ 258) × (word_number w.w2 ≤ 127) }
+    ensures { result ≡ item_span (t + word_number w.w2) w.w1 w.w1 }
 {
     span(literal_sort(w, t), w.w1, w.w1)
 }

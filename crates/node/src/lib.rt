@@ -2,10 +2,10 @@
 #![tactic(auto)]
 
 ghost use Rattle.std.specs.Prelude.{◌≡◌, ◌&&◌, [], ◌∷◌, ◌≤◌};
-ghost use Rattle.signed.specs.Words.{num as wordNumber};
+ghost use Rattle.signed.specs.Words.{num as word_number};
 ghost use Rattle.item.specs.Sorts.{is_number};
-ghost use Rattle.item.specs.Items.{small as smallItem};
-ghost use Rattle.words.specs.Record.{numbers_of, unused as unusedWords};
+ghost use Rattle.item.specs.Items.{small as small_item};
+ghost use Rattle.words.specs.Record.{numbers_of, unused as unused_words};
 ghost use Rattle.node.specs.Rows as rows;
 ghost use Rattle.node.specs.Judged as judged;
 
@@ -92,7 +92,7 @@ fn comparable(op: usize, x: Item, y: Item) -> bool
 
 // The node of item x, where its words past `used` are 0, its kind takes what it is given, and x lies in −M..M.
 fn checked(used: usize, g: Given, takes: bool, x: Item) -> Judgement
-    ensures { result ≡ judged.keep (unusedWords used (numbers_of g.words) && takes && smallItem x) x }
+    ensures { result ≡ judged.keep (unused_words used (numbers_of g.words) && takes && small_item x) x }
 {
     let w = g.words;
     keep(unused(used, numbers_of(w)) & takes & small(x), x)
@@ -303,7 +303,7 @@ fn no_kids() -> Kids
 
 // The child in word 1.
 fn one_kid(w: Words) -> Kids
-    ensures { judged.kids result ≡ (wordNumber w.w1 ∷ []) }
+    ensures { judged.kids result ≡ (word_number w.w1 ∷ []) }
 {
     Kids {
         count: 1,
@@ -314,7 +314,7 @@ fn one_kid(w: Words) -> Kids
 
 // The child in word 2.
 fn later_kid(w: Words) -> Kids
-    ensures { judged.kids result ≡ (wordNumber w.w2 ∷ []) }
+    ensures { judged.kids result ≡ (word_number w.w2 ∷ []) }
 {
     Kids {
         count: 1,
@@ -325,7 +325,7 @@ fn later_kid(w: Words) -> Kids
 
 // The children in words 1 and 2.
 fn two_kids(w: Words) -> Kids
-    ensures { judged.kids result ≡ (wordNumber w.w1 ∷ wordNumber w.w2 ∷ []) }
+    ensures { judged.kids result ≡ (word_number w.w1 ∷ word_number w.w2 ∷ []) }
 {
     Kids {
         count: 2,
@@ -336,7 +336,7 @@ fn two_kids(w: Words) -> Kids
 
 // The children in words 2 and 3.
 fn later_kids(w: Words) -> Kids
-    ensures { judged.kids result ≡ (wordNumber w.w2 ∷ wordNumber w.w3 ∷ []) }
+    ensures { judged.kids result ≡ (word_number w.w2 ∷ word_number w.w3 ∷ []) }
 {
     Kids {
         count: 2,

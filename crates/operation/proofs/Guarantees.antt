@@ -13,7 +13,7 @@ use Rattle.tables.proofs.Bools.{tests, bool_cases, true_false}
 use Rattle.tables.proofs.Scans.{all_at, all_of, any_at, any_of}
 use Rattle.layout.specs.declared.Header.{Header}
 use Rattle.layout.specs.Tables.{operation, effect}
-use Rattle.records.specs.Entities.{states as stateCount}
+use Rattle.records.specs.Entities.{states as state_count}
 use Rattle.records.specs.Operations.{outcome}
 use Rattle.records.proofs.OperationLaws.{Of, Declared, inside, effect_ok, entity_ok}
 use Rattle.operation.specs.declared.Choice.{Choice}
@@ -145,7 +145,7 @@ module _ {s : List ℤ} {h : Header} {states : List ℤ} {o : ℕ} (w : Ready s 
     applied_in = record { long = length_applied s h states o j; each = λ n l. go n l (fate n l) }
       where
         go : (n : ℕ) → n < h.entities → Fate s h states o j n (get_or (applied s h states o j) n (pos 0))
-            → present (applied s h states o j) n < stateCount s h n
+            → present (applied s h states o j) n < state_count s h n
         go n l (moved e m q) =
             rw (q, num_of (effect s h e).w2) (rw m.entity at (effect_ok w.accepted o w.exists e m.of).change.to)
         go n l (unmoved f q) = rw q (w.lent.each n l)

@@ -14,7 +14,7 @@ use Rattle.operation.specs.Outcomes.{of_operation, of_outcome, starts, matched, 
 use Rattle.operation.specs.declared.Choice.{Choice}
 use Rattle.operation.specs.declared.Choice.TheVariants.{Outcome, Nothing, Several}
 use Rattle.operation.specs.Changes.{applied}
-use Rattle.records.specs.Entities.{states as stateCount}
+use Rattle.records.specs.Entities.{states as state_count}
 use Rattle.operation.specs.States.{present}
 
 -- an operation's effects
@@ -98,7 +98,7 @@ candidate applies w j = asks w j && applies j
 -- there is a state for each entity, and each is among its entity's states
 pub record StatesIn (s : List ℤ) (h : Header) (states : List ℤ) : Type 0 where
   pub long : length states ≡ h.entities
-  pub each : (n : ℕ) → n < h.entities → present states n < stateCount s h n
+  pub each : (n : ℕ) → n < h.entities → present states n < state_count s h n
 
 -- two lists of states have the same state of each entity that an effect of operation o names
 abbrev pub Agree : List ℤ → Header → ℕ → List ℤ → List ℤ → Type 0

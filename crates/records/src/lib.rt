@@ -3,7 +3,7 @@
 
 ghost use Rattle.std.specs.Prelude.{◌≡◌, ℕ, ◌+◌, ◌*◌, ◌≤◌, ◌<◌, true, cond, ◌&&◌, eqb, length};
 ghost use Rattle.std.specs.Int.Signed.{le_z};
-ghost use Rattle.signed.specs.Words.{bounded as inBounds};
+ghost use Rattle.signed.specs.Words.{bounded as in_bounds};
 ghost use Rattle.layout.specs.Sized.{Sized};
 ghost use Rattle.layout.specs.Tables.{fact};
 ghost use Rattle.node.specs.FactTypes.{fact_type_of};
@@ -23,7 +23,7 @@ use words::{Record, number, unused, word};
 
 // The bounds of a fact that is a number.
 fn in_order(min: i64, max: i64) -> bool
-    ensures { result ≡ (inBounds min && le_z min max && inBounds max) }
+    ensures { result ≡ (in_bounds min && le_z min max && in_bounds max) }
 {
     bounded(min) & at_most(min, max) & bounded(max)
 }

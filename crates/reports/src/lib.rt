@@ -3,7 +3,7 @@
 
 ghost use Rattle.std.specs.Prelude.{◌≡◌, ◌<◌};
 ghost use Rattle.records.specs.Accepted.{Accepted};
-ghost use Rattle.signed.specs.Words.{num as wordNumber};
+ghost use Rattle.signed.specs.Words.{num as word_number};
 ghost use Rattle.calls.specs.Reports.{report_climb, reported, state_exists, yes_no, admissible_numbers, cause_numbers};
 ghost use Rattle.calls.specs.Reports.{reachable_answer, admissible_answer, can_cause_answer, rules_answer};
 ghost use Rattle.ladder.specs.Ladder.{exists};
@@ -69,7 +69,7 @@ fn find(s: &[i64], t: Report, x: i64) -> Climbed
 
 // S1, S5 and S7: a report that takes one number.
 pub fn look_up(s: &[i64], t: Report, x: i64) -> Count
-    ensures { result ≡ reported s.now (λ h. exists x (size h t)) (λ h. figure s.now h t (wordNumber x)) }
+    ensures { result ≡ reported s.now (λ h. exists x (size h t)) (λ h. figure s.now h t (word_number x)) }
 {
     match find(s, t, x) {
         Climbed::Stopped(r) => Count::Refused(r),

@@ -5,7 +5,7 @@
 ghost use Rattle.std.specs.Prelude.{◌≡◌, true, false, cond, ◌||◌, [], ℕ, suc, ◌<◌, ◌≤◌, max, ltb, eqb, length, get_or, set};
 ghost use Rattle.tables.specs.Scan.{first_fail};
 ghost use Rattle.tables.specs.Inner.{marked};
-ghost use Rattle.signed.specs.Words.{num as wordNumber};
+ghost use Rattle.signed.specs.Words.{num as word_number};
 ghost use Rattle.layout.specs.Header.{first_node};
 ghost use Rattle.node.specs.Rows.{row_of};
 ghost use Rattle.node.specs.Judged.{kids, judged, judged_parent};

@@ -54,41 +54,41 @@ one_line l = (
 )
 
 -- a text that is read, its words written again with room enough: the answer is the text's length, and the bytes are the text
-pub text_again : (text : List ℕ) (lentWords : List ℤ) (n : ℕ) (lentText : List ℕ)
-    → read_answer text (length lentWords) ≡ Is n
-    → length text ≤ length lentText
-    → (write_answer (take n (read_buffer text lentWords)) (length lentText) ≡ Is (length text))
-    × (take (length text) (write_buffer (take n (read_buffer text lentWords)) lentText) ≡ text)
-text_again text lentWords n lentText e r =
-    let good : all good_line (lines_of text) ≡ true = (read_is text lentWords n e).good in
+pub text_again : (text : List ℕ) (lent_words : List ℤ) (n : ℕ) (lent_text : List ℕ)
+    → read_answer text (length lent_words) ≡ Is n
+    → length text ≤ length lent_text
+    → (write_answer (take n (read_buffer text lent_words)) (length lent_text) ≡ Is (length text))
+    × (take (length text) (write_buffer (take n (read_buffer text lent_words)) lent_text) ≡ text)
+text_again text lent_words n lent_text e r =
+    let good : all good_line (lines_of text) ≡ true = (read_is text lent_words n e).good in
     let rows : all good_row (rows_of (words_of text)) ≡ true = words_of_good text good in
     let again : text_of (words_of text) ≡ text = text_of_words text good in
-    let room : length (text_of (words_of text)) ≤ length lentText = rw again r in
-    rw (read_words text lentWords n e) (
-      write_is (words_of text) lentText rows room ∙ ap (λ (t : List ℕ). Is (length t)) again,
-      ap (λ (t : List ℕ). take (length t) (write_buffer (words_of text) lentText)) (sym again) ∙ write_text (words_of text) lentText rows room ∙ again,
+    let room : length (text_of (words_of text)) ≤ length lent_text = rw again r in
+    rw (read_words text lent_words n e) (
+      write_is (words_of text) lent_text rows room ∙ ap (λ (t : List ℕ). Is (length t)) again,
+      ap (λ (t : List ℕ). take (length t) (write_buffer (words_of text) lent_text)) (sym again) ∙ write_text (words_of text) lent_text rows room ∙ again,
     )
 
 -- whole lines of words within −M..M that are written, and their text read again with room enough: the answer is the words' count, and
 -- they are the words
-pub words_again : (words : List ℤ) (lentText : List ℕ) (lentWords : List ℤ)
+pub words_again : (words : List ℤ) (lent_text : List ℕ) (lent_words : List ℤ)
     → length words % 8 ≡ 0
     → all has_text words ≡ true
-    → length (text_of words) ≤ length lentText
-    → length words ≤ length lentWords
+    → length (text_of words) ≤ length lent_text
+    → length words ≤ length lent_words
     → (n : ℕ)
-    × (write_answer words (length lentText) ≡ Is n)
-    × (read_answer (take n (write_buffer words lentText)) (length lentWords) ≡ Is (length words))
-    × (take (length words) (read_buffer (take n (write_buffer words lentText)) lentWords) ≡ words)
-words_again words lentText lentWords whole texts roomText roomWords =
+    × (write_answer words (length lent_text) ≡ Is n)
+    × (read_answer (take n (write_buffer words lent_text)) (length lent_words) ≡ Is (length words))
+    × (take (length words) (read_buffer (take n (write_buffer words lent_text)) lent_words) ≡ words)
+words_again words lent_text lent_words whole texts room_text room_words =
     let rows : all good_row (rows_of words) ≡ true = whole_good words whole texts in
     let again : words_of (text_of words) ≡ words = words_of_text words rows in
-    let read : read_answer (text_of words) (length lentWords) ≡ Is (length words) =
-    reads (text_of words) (length lentWords) (text_of_good words rows) (rw again roomWords) ∙ ap (λ (ws : List ℤ). Is (length ws)) again in (
+    let read : read_answer (text_of words) (length lent_words) ≡ Is (length words) =
+    reads (text_of words) (length lent_words) (text_of_good words rows) (rw again room_words) ∙ ap (λ (ws : List ℤ). Is (length ws)) again in (
       length (text_of words),
-      write_is words lentText rows roomText,
-      rw (write_text words lentText rows roomText) read,
-      rw (write_text words lentText rows roomText) (read_words (text_of words) lentWords (length words) read ∙ again),
+      write_is words lent_text rows room_text,
+      rw (write_text words lent_text rows room_text) read,
+      rw (write_text words lent_text rows room_text) (read_words (text_of words) lent_words (length words) read ∙ again),
     )
 
 -- twelve bytes for each word are room enough
