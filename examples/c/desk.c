@@ -1,7 +1,7 @@
 /* A desk: reads the text of a sheet from stdin, checks it, and then lists the paths of its flows, performs one operation or
  * runs one flow.
  *
- *   cc -Iinclude examples/c/desk.c target/staticlib/libfernpocket.a -o desk
+ *   cc -Iinclude examples/c/desk.c crates/fernpocket/out/libfernpocket.a -o desk
  *   ./desk operate 3 0 0=500000 1=1 2=1,1,1 < examples/escrow.txt
  *   ./desk operate 0 0 1.11=0 1.12=0 1@12 0=1 < examples/parcels.txt
  *

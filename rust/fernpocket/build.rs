@@ -12,7 +12,7 @@ fn main() {
     let other = env::var_os("FERNPOCKET_LIB");
     let folder = match &other {
         Some(folder) => manifest.join(folder),
-        None => root.join("target/staticlib"),
+        None => root.join("crates/fernpocket/out"),
     };
     let archive = folder.join("libfernpocket.a");
     println!("cargo::rerun-if-env-changed=FERNPOCKET_LIB");
@@ -21,7 +21,7 @@ fn main() {
 
     let bytes = fs::read(&archive).unwrap_or_else(|error| {
         fail(&format!(
-            "there is no archive to link ({}: {error}). Run `rt staticlib fernpocket` at the repository's root, or set \
+            "there is no archive to link ({}: {error}). Run `rt lib` in crates/fernpocket, or set \
              FERNPOCKET_LIB to the folder that holds libfernpocket.a.",
             archive.display()
         ))
@@ -30,7 +30,7 @@ fn main() {
     if other.is_none() {
         if let Some(source) = newer_source(&root, changed(&archive)) {
             fail(&format!(
-                "{} is older than {}. Run `rt staticlib fernpocket` at the repository's root.",
+                "{} is older than {}. Run `rt lib` in crates/fernpocket.",
                 archive.display(),
                 source.display()
             ));
@@ -64,7 +64,7 @@ fn newer_source(root: &Path, archive: SystemTime) -> Option<PathBuf> {
     let list = root.join("crates.txt");
     rerun_if_changed(&list);
     let text = fs::read_to_string(&list).unwrap_or_else(|error| fail(&format!("{}: {error}", list.display())));
-    let crates = text.lines().find_map(|line| line.strip_prefix("fernpocket:"));
+    let crates = text.lines().find_map(|line| line.strip_prefix("fernpocket staticlib:"));
     let crates = crates.unwrap_or_else(|| fail(&format!("{} has no line for fernpocket", list.display())));
     let mut newer = None;
     for name in ["fernpocket"].into_iter().chain(crates.split_whitespace()) {

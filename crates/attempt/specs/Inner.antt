@@ -3,7 +3,6 @@
 use Rattle.std.specs.Prelude.{Bool, List, ℕ, ◌<◌, ℤ}
 use Rattle.answer.specs.declared.Count.{Count}
 use Rattle.layout.specs.declared.Header.{Header}
-use Rattle.layout.specs.Tables.{operation}
 use Rattle.node.specs.FactValues.{FactValue}
 use Rattle.facts.specs.Inner.{FactsIn}
 use Rattle.predicate.specs.Inner.{Truths}

@@ -3,9 +3,9 @@
 // A call: the number of what is called, its numbers, its buffers. 0, with the sheet as a buffer, sets the sheet of the calls after it.
 #![tactic(auto)]
 
-mod calls;
+mod call_cases;
 mod figures;
-mod walks;
+mod walk_cases;
 
 use script::buffers::{number, past_all, size, skip};
 use signed::num;
@@ -39,20 +39,20 @@ fn lent(call: usize) -> usize {
 fn on_flow(s: &[i64], tape: &[i64], call: usize, at: usize, first: usize, case: usize) {
     let flow = number(tape, at, 1);
     match call {
-        4 => walks::first(s, tape, first, flow, case),
-        5 => walks::next(s, tape, first, flow, case),
-        6 => walks::run(s, tape, first, flow, case),
-        7 => walks::all(s, tape, first, flow, case),
-        8 => walks::list(s, tape, first, flow, num(number(tape, at, 2)), case),
+        4 => walk_cases::first(s, tape, first, flow, case),
+        5 => walk_cases::next(s, tape, first, flow, case),
+        6 => walk_cases::run(s, tape, first, flow, case),
+        7 => walk_cases::all(s, tape, first, flow, case),
+        8 => walk_cases::list(s, tape, first, flow, num(number(tape, at, 2)), case),
         _ => figures::report(s, tape, call, at, case),
     }
 }
 
 fn on_sheet(s: &[i64], tape: &[i64], call: usize, at: usize, first: usize, case: usize) {
     match call {
-        1 => calls::assemble(s, tape, first, case),
-        2 => calls::verdicts(s, tape, first, case),
-        3 => calls::operate(
+        1 => call_cases::assemble(s, tape, first, case),
+        2 => call_cases::verdicts(s, tape, first, case),
+        3 => call_cases::operate(
             s,
             tape,
             first,

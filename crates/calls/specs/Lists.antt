@@ -1,7 +1,7 @@
 -- 01, demand 3: lists of the public calls first and next, on one sheet, one flow and one buffer, which may hold anything before it; and a run
 -- by itself.
 -- Assumes nothing.
-use Rattle.std.specs.Prelude.{◌≡◌, List, [], ◌∷◌, ◌↔◌, ℕ, ◌-◌, ◌≤◌, ◌<◌, min, ℤ, pos, length}
+use Rattle.std.specs.Prelude.{◌≡◌, List, [], ◌∷◌, ◌↔◌, ℕ, ◌-◌, ◌≤◌, ◌<◌, min, ℤ, pos}
 use Rattle.signed.specs.Words.{num}
 use Rattle.answer.specs.Answers.{counted_answer}
 use Rattle.layout.specs.declared.Header.{Header}

@@ -2,7 +2,6 @@
 -- Assumes nothing.
 use Rattle.std.specs.Prelude.{ℕ, Bool, true, false}
 use Rattle.words.specs.declared.Record.{Record}
-use Rattle.layout.specs.Tables.{effect}
 use Rattle.reach.specs.Moves.{leaves, leads}
 
 -- what an effect is looked for by: that it starts from state a of entity n, and with `on` that it leads to state b as well

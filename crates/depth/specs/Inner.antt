@@ -2,9 +2,7 @@
 -- Assumes nothing.
 use Rattle.std.specs.Prelude.{true, false, List, ℕ, ◌≤◌, zero, suc, ◌+◌, max, ℤ, get_or}
 use Rattle.layout.specs.declared.Header.{Header}
-use Rattle.walks.specs.Paths.{first_route_of, routes_of, ends, target, later}
-use Rattle.layout.specs.Tables.{step, route}
-use Rattle.depth.specs.Depth.{greatest}
+use Rattle.walks.specs.Paths.{first_route_of, routes_of, ends, target}
 
 -- the greatest of f at the n numbers from i on
 unfoldable pub max_from : (ℕ → ℕ) → ℕ → ℕ → ℕ

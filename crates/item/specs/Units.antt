@@ -1,6 +1,6 @@
 -- 02, CR 4: "two units being taken to the smaller, the result's too, a day being 24 hours". The smaller unit's type has the greater number.
 -- Assumes nothing.
-use Rattle.std.specs.Prelude.{ℕ, ◌*◌, max, ℤ, pos, ◌*ℤ◌, Bool, cond, ◌&&◌, leb, ltb}
+use Rattle.std.specs.Prelude.{ℕ, ◌*◌, max, ℤ, pos, ◌*ℤ◌, cond, ◌&&◌, leb, ltb}
 use Rattle.item.specs.Sorts.{is_duration}
 
 -- n where the way from type u to type v leads past type k, else 1

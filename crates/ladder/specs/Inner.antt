@@ -3,7 +3,6 @@
 use Rattle.answer.specs.declared.Refusal.{Refusal}
 use Rattle.answer.specs.declared.Status.{Status}
 use Rattle.answer.specs.declared.Status.TheVariants.{Done, Refused}
-use Rattle.ladder.specs.Ladder.{by}
 
 -- the same by a status, where the header is known already
 unfoldable pub after : {A : Type 0} → Status → (Refusal → A) → A → A

@@ -1,13 +1,13 @@
 -- What the inner functions ask and answer, and what proofs speak of. The definitions of the other files do not rest on these.
 -- Assumes nothing.
-use Rattle.std.specs.Prelude.{List, [], ◌∷◌, ℕ, ◌-◌, ◌≤◌, ◌<◌, zero, suc, min, ℤ, length, take, ◌≡◌, ◌↔◌}
+use Rattle.std.specs.Prelude.{List, [], ◌∷◌, ℕ, ◌-◌, ◌≤◌, ◌<◌, zero, suc, min, ℤ, take, ◌≡◌, ◌↔◌}
 use Rattle.answer.specs.declared.Refusal.TheVariants.{LastPath}
 use Rattle.answer.specs.declared.Counted.TheVariants.{Is as Walked, Refused}
 use Rattle.layout.specs.declared.Header.{Header}
-use Rattle.walks.specs.Paths.{terminal, paths, path, last, next}
+use Rattle.walks.specs.Paths.{path}
 use Rattle.walks.specs.Follows.{walk_of, laid}
 use Rattle.listing.specs.Calls.{first_walk, first_laid, next_walk, next_laid}
-use Rattle.listing.specs.Lists.{Call, State, nexts, count, First, Next}
+use Rattle.listing.specs.Lists.{Call, State, count, First, Next}
 
 unfoldable pub called : List ℤ → Header → ℕ → List ℕ → Call → State
 called s h f b First = record { buffer = first_laid s h f b; answer = first_walk s h f }

@@ -1,6 +1,6 @@
 -- 01, "Fact", and 02, CR 4: one row for each type: 0 Bool, 1 Int, 2 Enum, 3 Money, 4 Duration.
 -- Assumes nothing.
-use Rattle.std.specs.Prelude.{ℕ, ◌+◌, ℤ, pos, Bool, false, ◌&&◌, List, [], ◌∷◌, get_or, leb, eqb}
+use Rattle.std.specs.Prelude.{ℕ, ◌+◌, ℤ, pos, Bool, false, ◌&&◌, [], ◌∷◌, get_or, leb, eqb}
 use Rattle.std.specs.Int.Signed.{le_z}
 use Rattle.signed.specs.Words.{eq_z, within, bounded}
 

@@ -1,6 +1,6 @@
 -- What the work on a tree asks where it has `base`, the record of the first node, in place of the header: the header is the sheet's own.
 -- Assumes nothing.
-use Rattle.std.specs.Prelude.{◌≡◌, Bool, true, ℕ, ◌+◌, ◌*◌, ◌^◌, ◌≤◌, ◌<◌, ℤ, pos, eqb, length, get_or, List}
+use Rattle.std.specs.Prelude.{◌≡◌, true, ℕ, ◌+◌, ◌*◌, ◌^◌, ◌≤◌, ◌<◌, ℤ, pos, eqb, length, get_or, List}
 use Rattle.tables.specs.Lists.{words_from}
 use Rattle.signed.specs.Words.{num}
 use Rattle.words.specs.Record.{words_at}

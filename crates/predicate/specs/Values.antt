@@ -1,7 +1,7 @@
 -- 01, "Node" and "Evaluation", and 02, CR 4 and CR 6: the value of a node over facts and verdicts. A Bool is 1 where it is true, else 0. In the
 -- body of a quantifier a node has a value at each element of the list, so the value is one at an element; a quantifier is the same at all.
 -- Assumes nothing.
-use Rattle.std.specs.Prelude.{ℕ, ℤ, pos, Bool, true, List}
+use Rattle.std.specs.Prelude.{ℕ, ℤ, pos, Bool, List}
 use Rattle.tables.specs.Table.{entry}
 use Rattle.tables.specs.Lists.{pick}
 use Rattle.layout.specs.declared.Header.{Header}

@@ -4,7 +4,7 @@ use Rattle.std.specs.Prelude.{Bool, true, false, ◌&&◌, List, [], ◌∷◌, 
 use Rattle.answer.specs.declared.Counted.{Counted}
 use Rattle.answer.specs.declared.Counted.TheVariants.{Is as Walked}
 use Rattle.layout.specs.declared.Header.{Header}
-use Rattle.walks.specs.Paths.{terminal, paths, path}
+use Rattle.walks.specs.Paths.{terminal}
 
 -- the buffer begins with the path
 unfoldable pub begins : List ℕ → List ℕ → Bool

@@ -1,10 +1,10 @@
 -- What the inner functions ask and answer, and what proofs speak of. The definitions of the other files do not rest on these.
 -- Assumes nothing.
-use Rattle.std.specs.Prelude.{true, false, List, [], ◌∷◌, ℕ, ◌-◌, ◌≤◌, ◌<◌, ◌+◌, ℤ, length, get_or, take, ◌≡◌}
+use Rattle.std.specs.Prelude.{true, false, List, [], ◌∷◌, ℕ, ◌-◌, ◌≤◌, ◌<◌, ◌+◌, ℤ, length, get_or, ◌≡◌}
 use Rattle.layout.specs.declared.Header.{Header}
 use Rattle.records.specs.Accepted.{Accepted}
-use Rattle.walks.specs.Paths.{steps_of, paths, path, WholeList, onward, paths_from, next}
-use Rattle.layout.specs.Tables.{flow, step, route, step_start_of}
+use Rattle.walks.specs.Paths.{steps_of, WholeList, onward, paths_from}
+use Rattle.layout.specs.Tables.{flow, step, step_start_of}
 use Rattle.records.specs.Flows.{steps_end}
 use Rattle.walks.specs.declared.Walker.{Walker}
 use Rattle.walks.specs.Walkers.{taken}

@@ -1,6 +1,6 @@
 -- Walks along a flow: "one step of a flow hands on the next step, or the terminal".
 -- Assumes nothing.
-use Rattle.std.specs.Prelude.{false, List, ℕ, ◌+◌, ◌-◌, ℤ}
+use Rattle.std.specs.Prelude.{false, List, ℕ, ◌+◌, ℤ}
 use Rattle.answer.specs.declared.Counted.{Counted}
 use Rattle.answer.specs.declared.Counted.TheVariants.{Is as Walked}
 use Rattle.layout.specs.declared.Header.{Header}

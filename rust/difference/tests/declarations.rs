@@ -104,7 +104,7 @@ fn the_four_numbers_stand_in_one_order() {
         .map(|line| line.split(';').next().unwrap().strip_prefix("int64_t ").expect("a field is an int64_t"))
         .map(|field| format!("pub {field}: i64,"))
         .collect();
-    assert_eq!(in_c, between("crates/answer/src/lib.rt", "#[repr(C)]\npub struct Answer {", "}"));
+    assert_eq!(in_c, between("crates/answer/src/lib.rt", "#[repr(C)]\n#[derive(Clone, Copy)]\npub struct Answer {", "}"));
     assert_eq!(in_c, between("rust/fernpocket/src/raw.rs", "pub struct Answer {", "}"));
 }
 

@@ -1,6 +1,6 @@
 //! The program `paths` on whole texts: what it writes against a listing by the reference.
 //!
-//! `rt check paths` at the repository's root builds it.
+//! `rt run` in crates/paths builds it.
 
 use fernpocket::example;
 use std::io::Write;
@@ -19,13 +19,13 @@ const UNWRITTEN: &str = "paths: standard output could not be written\n";
 
 /// What the program writes for a text to standard output, where this is a pipe, and to standard error.
 fn written(text: &[u8], output: Stdio) -> (String, String) {
-    let program = Path::new(env!("CARGO_MANIFEST_DIR")).join("../../target/bin/paths");
+    let program = Path::new(env!("CARGO_MANIFEST_DIR")).join("../../crates/paths/out/paths");
     let mut child = Command::new(&program)
         .stdin(Stdio::piped())
         .stdout(output)
         .stderr(Stdio::piped())
         .spawn()
-        .unwrap_or_else(|error| panic!("{}: {error}; `rt check paths` builds it", program.display()));
+        .unwrap_or_else(|error| panic!("{}: {error}; `rt run` in crates/paths builds it", program.display()));
     // The program reads no more than it takes, so the rest of a longer text may find the pipe closed.
     let _ = child.stdin.take().unwrap().write_all(text);
     let output = child.wait_with_output().unwrap();

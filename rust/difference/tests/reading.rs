@@ -37,13 +37,12 @@ fn listed() -> BTreeSet<String> {
 /// The files of definitions that a file's `use` lines name.
 fn used(file: &str) -> Vec<String> {
     let text = read(&root().join("crates").join(file));
-    let lines = text.lines().filter_map(|line| line.trim_start_matches("ghost ").strip_prefix("use Rattle·"));
+    let lines = text.lines().filter_map(|line| line.trim_start_matches("ghost ").strip_prefix("use Rattle."));
     lines
         .filter_map(|name| {
             let (library, rest) = name.split_once(".specs.")?;
             let module = rest.split(['.', ' ', ';']).next().expect("a module");
-            let library = library.trim_end_matches("·specs");
-            (module != "declared").then(|| format!("{library}/specs/{module}.antt"))
+            (module != "declared" && library != "std").then(|| format!("{library}/specs/{module}.antt"))
         })
         .collect()
 }

@@ -35,7 +35,7 @@ impl Desk {
     fn compiled() -> Desk {
         let archive = match std::env::var_os("FERNPOCKET_LIB") {
             Some(folder) => Path::new(env!("CARGO_MANIFEST_DIR")).join(folder),
-            None => root().join("target/staticlib"),
+            None => root().join("crates/fernpocket/out"),
         };
         let program = Path::new(env!("CARGO_TARGET_TMPDIR")).join("desk");
         let mut command = Command::new("cc");

@@ -1,6 +1,6 @@
 use Rattle.depth.proofs.Depths.{scan_none, scan_more, scan_step, scan_in}
 use Prim.Native.Nat.{◌-◌}
-use mathlib.Core.Logic.{inl, inr, ⊎_elim}
+use mathlib.Core.Logic.{inl, inr}
 use native.Mathlib.Omega.{arith}
 use Rattle.depth.proofs.step_depth.Goals as goal
 use Rattle.depth.proofs.step_depth.Goals.{then-most-depth, else-most-depth}

@@ -2,7 +2,7 @@ use Rattle.listing.proofs.CallLaws.{seek_start, sought}
 use Rattle.listing.proofs.Seeking.{seek_room, seek_step, seek_sum, seek_nowhere, seek_more, seek_less, seek_done}
 use lib.ListN.{length}
 use Prim.Native.Nat.{◌-◌}
-use mathlib.Core.Logic.{inl, inr, ⊎_elim}
+use mathlib.Core.Logic.{inl, inr}
 use native.Mathlib.Omega.{arith}
 use Rattle.listing.proofs.seek.Goals as goal
 use Rattle.listing.proofs.seek.Goals.{then-route-end, else-route-end}

@@ -1,7 +1,7 @@
--- `walks::mixed_path` is safe and ends. Assumes nothing.
+-- `walk_cases::mixed_path` is safe and ends. Assumes nothing.
 use Prim.Native.Nat.{◌≤◌, ◌-◌}
 use lib.ListN.{length}
-use Rattle.call_vectors.proofs.walks.mixed_path.Given as goal
+use Rattle.call_vectors.proofs.walk_cases.mixed_path.Given as goal
 
 abbrev pub invariant-loop-i : goal.invariant-loop-i
 invariant-loop-i l = l.i ≤ length l.path
