@@ -87,6 +87,7 @@ fn scan(
 }
 
 // The first state that is found and not scanned, or 16 where there is none.
+#[tactic(auto, using(crate::proofs::Flags::picked))]
 fn next_open(found: &[bool], scanned: &[bool]) -> usize
     requires { (length found.now ≡ 16) × (length scanned.now ≡ 16) }
     ensures { result ≡ next_open found.now scanned.now }

@@ -3,7 +3,6 @@ use Prim.Native.Nat.{◌-◌}
 use mathlib.Core.Logic.{inl, inr}
 use native.Mathlib.Omega.{arith}
 use Rattle.depth.proofs.step_depth.Goals as goal
-use Rattle.depth.proofs.step_depth.Goals.{then-most-depth, else-most-depth}
 
 pub first_route-route-requires : goal.first_route-route-requires
 first_route-route-requires c = record { sized = c.requires.accepted.sized; step_lt_steps = c.requires.step_lt_steps }
@@ -33,7 +32,7 @@ overflow_add-route c = omega (
 
 pub loop-route-preserved : goal.loop-route-preserved
 loop-route-preserved c = scan_more c.loop-route.invariant c.loop-route-test.true c.route_depth-depth.ensures
-    (elim c.if-most-depth.branch [ then-most-depth w ↦ inl (w.if-most-depth.true, w.most-is) | else-most-depth w ↦ inr (w.if-most-depth.false, w.most-is) ])
+    (grind arith)
 
 pub returns : goal.returns
 returns c = scan_step _ _ _ _ c.loop-route.invariant c.loop-route-test.false c.first_route-route.ensures c.routes.ensures
