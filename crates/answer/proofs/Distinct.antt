@@ -3,8 +3,8 @@
 use mathlib.Core.Path.{◌≡◌}
 use Prim.Native.Nat.{ℕ}
 use native.Mathlib.Omega.{arith}
+use Rattle.std.specs.Prelude.{Ok, Err}
 use Rattle.answer.specs.declared.Refusal.{Refusal}
-use Rattle.answer.specs.declared.Status.TheVariants.{Done, Refused}
 
-pub refused_done : {r : Refusal} → Refused r ≡ Done → ⊥
+pub refused_done : {A : Type 0} {r : Refusal} {x : A} → Err r ≡ Ok x → ⊥
 refused_done e = let z : ◌≡◌ {A = ℕ} 0 1 = cc in omega arith

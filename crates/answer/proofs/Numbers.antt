@@ -9,14 +9,11 @@ use lib.IntN.{pos, nat_abs}
 use lib.ListN.{get_or}
 use Rattle.answer.specs.declared.Refusal.{Refusal}
 use Rattle.answer.specs.declared.Refusal.TheVariants.{Header, Group, Record, Length, Missing, FactValue, FactAbsent, State, Persona, Precondition, NoOutcome, NotPath, LastPath, Line, NoRoom, ManyOutcomes}
-use Rattle.answer.specs.declared.Status.{Status}
-use Rattle.answer.specs.declared.Status.TheVariants.{Done, Refused}
-use Rattle.answer.specs.declared.Count.{Count}
-use Rattle.answer.specs.declared.Count.TheVariants.{Is, Refused as NoCount}
-use Rattle.answer.specs.declared.Counted.{Counted}
-use Rattle.answer.specs.declared.Counted.TheVariants.{Is as IsCounted, Refused as NotCounted}
 use Rattle.answer.specs.Number.{number, place, refused_answer}
-use Rattle.answer.specs.Answers.{status_answer, count_answer, counted_answer}
+use Rattle.std.specs.Prelude.{Ok, Err}
+use lib.Dec.{lit<}
+use Rattle.answer.specs.Inner.{SmallStatus, Small}
+use Rattle.answer.specs.Answers.{Status, Count, Counted, tallied, status_answer, count_answer, counted_answer}
 
 -- ---- the numbers of refusals
 
@@ -78,28 +75,34 @@ number_some r e = omega (arith, (number_range r).0, ap nat_abs e)
 
 -- ---- answers whose refusal number is 0
 
-pub status_done : (a : Status) → (status_answer a).refusal ≡ pos 0 → a ≡ Done
-status_done Done e = refl
-status_done (Refused r) e = absurd (number_some r e)
+pub status_done : (a : Status) → (status_answer a).refusal ≡ pos 0 → a ≡ Ok tt
+status_done (Ok x) e = refl
+status_done (Err r) e = absurd (number_some r e)
 
-pub count_done : (a : Count) (n : ℕ) → (count_answer a).refusal ≡ pos 0 → (count_answer a).value ≡ pos n → a ≡ Is n
-count_done (Is m) n e f = ap Is (ap nat_abs f)
-count_done (NoCount r) n e f = absurd (number_some r e)
+pub count_done : (a : Count) (n : ℕ) → (count_answer a).refusal ≡ pos 0 → (count_answer a).value ≡ pos n → a ≡ Ok n
+count_done (Ok m) n e f = ap Ok (ap nat_abs f)
+count_done (Err r) n e f = absurd (number_some r e)
 
-pub counted_done : (a : Counted) → (counted_answer a).refusal ≡ pos 0 → (v : ℕ) × (n : ℕ) × (a ≡ IsCounted v n)
-counted_done (IsCounted v n) e = (v, n, refl)
-counted_done (NotCounted r) e = absurd (number_some r e)
+pub counted_done : (a : Counted) → (counted_answer a).refusal ≡ pos 0 → (v : ℕ) × (n : ℕ) × (a ≡ tallied v n)
+counted_done (Ok x) e = (x.value, x.count, refl)
+counted_done (Err r) e = absurd (number_some r e)
 
 -- ---- refusals by their numbers
 
-count_refused : (a : Count) (n : ℕ) → 1 ≤ n → (count_answer a).refusal ≡ pos n → a ≡ NoCount (refusal_of n (nat_abs (count_answer a).place))
-count_refused (Is m) n l e = absurd (omega (arith, ap nat_abs e))
-count_refused (NoCount r) n l e = ap NoCount (sym (of_own r) ∙ ap (λ (m : ℕ). refusal_of m (place r)) (ap nat_abs e))
+count_refused : (a : Count) (n : ℕ) → 1 ≤ n → (count_answer a).refusal ≡ pos n → a ≡ Err (refusal_of n (nat_abs (count_answer a).place))
+count_refused (Ok m) n l e = absurd (omega (arith, ap nat_abs e))
+count_refused (Err r) n l e = ap Err (sym (of_own r) ∙ ap (λ (m : ℕ). refusal_of m (place r)) (ap nat_abs e))
 
-pub count_eleven : (a : Count) → (count_answer a).refusal ≡ pos 11 → a ≡ NoCount (NoOutcome (nat_abs (count_answer a).place))
+pub count_eleven : (a : Count) → (count_answer a).refusal ≡ pos 11 → a ≡ Err (NoOutcome (nat_abs (count_answer a).place))
 unfolding refusal_of
 count_eleven a e = count_refused a 11 (omega arith) e
 
-pub count_sixteen : (a : Count) → (count_answer a).refusal ≡ pos 16 → a ≡ NoCount ManyOutcomes
+pub count_sixteen : (a : Count) → (count_answer a).refusal ≡ pos 16 → a ≡ Err ManyOutcomes
 unfolding refusal_of
 count_sixteen a e = count_refused a 16 (omega arith) e
+
+-- ---- answers with no number to give
+
+pub status_small : (a : Status) → SmallStatus a → Small (λ _. (0, 0)) a
+status_small (Ok x) l = (lit< tt, lit< tt)
+status_small (Err r) l = l

@@ -1,22 +1,36 @@
--- The four numbers of each kind of answer. `Small..` says that they fit a signed word, which the exports show of their answers.
+-- What calls answer, and the four numbers of each answer.
 -- Assumes nothing.
+use Rattle.std.specs.Prelude.{ℕ, Result, Ok, Err, ⊤}
+use Rattle.answer.specs.declared.Refusal.{Refusal}
 use Rattle.answer.specs.declared.Answer.{Answer}
-use Rattle.answer.specs.declared.Status.{Status}
-use Rattle.answer.specs.declared.Status.TheVariants.{Done, Refused}
-use Rattle.answer.specs.declared.Count.{Count}
-use Rattle.answer.specs.declared.Count.TheVariants.{Is, Refused as NoCount}
-use Rattle.answer.specs.declared.Counted.{Counted}
-use Rattle.answer.specs.declared.Counted.TheVariants.{Is as IsCounted, Refused as NotCounted}
+use Rattle.answer.specs.declared.Tally.{Tally}
 use Rattle.answer.specs.Number.{refused_answer, done_answer}
 
+-- what a call answers that has no number to give
+abbrev pub Status : Type 0
+Status = Result ⊤ Refusal
+
+-- that gives one number
+abbrev pub Count : Type 0
+Count = Result ℕ Refusal
+
+-- that gives two
+abbrev pub Counted : Type 0
+Counted = Result Tally Refusal
+
+abbrev pub tallied : ℕ → ℕ → Counted
+tallied v n = Ok (record { value = v; count = n })
+
+-- the four numbers of an answer, by the two that it gives where the call goes through
+abbrev pub answer_of : {A : Type 0} → (A → ℕ × ℕ) → Result A Refusal → Answer
+answer_of f (Ok x) = done_answer (f x).0 (f x).1
+answer_of f (Err r) = refused_answer r
+
 abbrev pub status_answer : Status → Answer
-status_answer Done = done_answer 0 0
-status_answer (Refused r) = refused_answer r
+status_answer t = answer_of (λ _. (0, 0)) t
 
 abbrev pub count_answer : Count → Answer
-count_answer (Is n) = done_answer n 0
-count_answer (NoCount r) = refused_answer r
+count_answer c = answer_of (λ n. (n, 0)) c
 
 abbrev pub counted_answer : Counted → Answer
-counted_answer (IsCounted v n) = done_answer v n
-counted_answer (NotCounted r) = refused_answer r
+counted_answer c = answer_of (λ x. (x.value, x.count)) c

@@ -1,12 +1,11 @@
 -- What the inner functions ask and answer, and what proofs speak of. The definitions of the other files do not rest on these.
 -- Assumes nothing.
-use Rattle.std.specs.Prelude.{Bool, List, ℕ, ◌<◌, ℤ}
-use Rattle.answer.specs.declared.Count.{Count}
+use Rattle.std.specs.Prelude.{Bool, List, ℕ, ◌<◌, ℤ, Option}
+use Rattle.answer.specs.Answers.{Count}
 use Rattle.layout.specs.declared.Header.{Header}
 use Rattle.node.specs.FactValues.{FactValue}
 use Rattle.facts.specs.Inner.{FactsIn}
 use Rattle.predicate.specs.Inner.{Truths}
-use Rattle.operation.specs.declared.Wanted.{Wanted}
 use Rattle.operation.specs.Mask.{allowed}
 use Rattle.operation.specs.Outcomes.{chosen}
 use Rattle.operation.specs.Ready.{Ready}
@@ -20,8 +19,8 @@ pub record Attemptable (s : List ℤ) (h : Header) (facts : List FactValue) (ver
   pub persona : p < h.personas
 
 -- an attempt's answer and the states afterwards, by whether the precondition holds
-unfoldable pub attempted_if : List ℤ → Header → Bool → List ℤ → ℕ → ℕ → Wanted → Count
+unfoldable pub attempted_if : List ℤ → Header → Bool → List ℤ → ℕ → ℕ → Option ℕ → Count
 attempted_if s h holds states p o w = attempt_answer (allowed s h o p) holds (chosen s h states o w)
 
-unfoldable pub attempted_states_if : List ℤ → Header → Bool → List ℤ → ℕ → ℕ → Wanted → List ℤ
+unfoldable pub attempted_states_if : List ℤ → Header → Bool → List ℤ → ℕ → ℕ → Option ℕ → List ℤ
 attempted_states_if s h holds states p o w = states_after s h states o (attempted_if s h holds states p o w)

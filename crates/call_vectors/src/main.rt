@@ -3,103 +3,103 @@
 // A call: the number of what is called, its numbers, its buffers. 0, with the sheet as a buffer, sets the sheet of the calls after it.
 #![tactic(auto)]
 
-mod call_cases;
-mod figures;
-mod walk_cases;
+mod codes;
+mod fact_cases;
+mod facts_lent;
+mod flow_cases;
 
-use script::buffers::{number, past_all, size, skip};
-use signed::num;
-use tables::word_entry;
+use answer::{Figures, Refusal};
+use codes::Call;
+use script::buffers::Cursor;
+use script::lines;
+use standard::Output;
+use std::io;
+use std::io::Write;
 
-// How many numbers a call has.
-fn numbers(call: usize) -> usize {
-    match call {
-        3 => 3,
-        8 => 2,
-        11 => 4,
-        12 => 4,
-        13 => 0,
-        4..=17 => 1,
-        _ => 0,
-    }
+// A call's number, its sheet, and its buffers on the tape.
+#[derive(Clone, Copy)]
+pub struct Case<'a> {
+    number: usize,
+    sheet: &'a [i64],
+    lent: Cursor<'a>,
 }
 
-// How many buffers a call has.
-fn lent(call: usize) -> usize {
-    match call {
-        1 => 4,
-        2 => 5,
-        3 => 6,
-        6 => 8,
-        0..=8 => 1,
-        _ => 0,
+impl Case<'_> {
+    // The line of a call that is lent no buffer.
+    fn report<T: Figures + Copy>(
+        self,
+        out: &mut impl Write,
+        answer: Result<T, Refusal>,
+    ) -> io::Result<()> {
+        lines::answer(out, self.number, answer)?;
+        writeln!(out)
     }
-}
 
-fn on_flow(s: &[i64], tape: &[i64], call: usize, at: usize, first: usize, case: usize) {
-    let flow = number(tape, at, 1);
-    match call {
-        4 => walk_cases::first(s, tape, first, flow, case),
-        5 => walk_cases::next(s, tape, first, flow, case),
-        6 => walk_cases::run(s, tape, first, flow, case),
-        7 => walk_cases::all(s, tape, first, flow, case),
-        8 => walk_cases::list(s, tape, first, flow, num(number(tape, at, 2)), case),
-        _ => figures::report(s, tape, call, at, case),
-    }
-}
-
-fn on_sheet(s: &[i64], tape: &[i64], call: usize, at: usize, first: usize, case: usize) {
-    match call {
-        1 => call_cases::assemble(s, tape, first, case),
-        2 => call_cases::verdicts(s, tape, first, case),
-        3 => call_cases::operate(
-            s,
-            tape,
-            first,
-            number(tape, at, 1),
-            number(tape, at, 2),
-            number(tape, at, 3),
-            case,
-        ),
-        _ => on_flow(s, tape, call, at, first, case),
-    }
-}
-
-// The call at a place, on the sheet that stands at another.
-fn run(tape: &[i64], sheet: usize, at: usize, call: usize, first: usize, case: usize) {
-    let from = skip(sheet, 1);
-    let to = skip(from, size(tape, sheet));
-    if from <= to {
-        if to <= tape.len() {
-            on_sheet(&tape[from..to], tape, call, at, first, case);
+    fn run(self, out: &mut impl Write, call: Call) -> io::Result<()> {
+        let s = self.sheet;
+        match call {
+            Call::Sheet => Ok(()),
+            Call::Assemble => self.assemble(out),
+            Call::Verdicts => self.verdicts(out),
+            Call::Operate {
+                persona,
+                operation,
+                wanted,
+            } => self.operate(out, persona, operation, wanted),
+            Call::First(flow) => self.first(out, flow),
+            Call::Next(flow) => self.next(out, flow),
+            Call::Run(flow) => self.walk(out, flow),
+            Call::All(flow) => self.all(out, flow),
+            Call::List { flow, nexts } => self.list(out, flow, nexts),
+            Call::LookUp(report, x) => self.report(out, reports::look_up(s, report, x)),
+            Call::Reachable(entity) => self.report(out, reports::reachable(s, entity)),
+            Call::Admissible {
+                entity,
+                state,
+                persona,
+                operation,
+            } => self.report(
+                out,
+                reports::admissible(s, entity, state, persona, operation),
+            ),
+            Call::CanCause {
+                persona,
+                entity,
+                from,
+                to,
+            } => self.report(out, reports::can_cause(s, persona, entity, from, to)),
+            Call::Rules => self.report(out, reports::rules(s)),
         }
     }
 }
 
-fn run_all(tape: &[i64], end: usize) {
-    let mut sheet = 0;
-    let mut at = 0;
-    let mut case = 0;
-    while case < 4096 {
-        if end <= at {
+fn run_all(out: &mut impl Write, mut calls: Cursor<'_>) -> io::Result<()> {
+    let mut sheet = calls;
+    for number in 0..4096 {
+        if calls.is_over() {
             break;
         }
-        let call = num(word_entry(tape, at));
-        let first = skip(skip(at, 1), numbers(call));
-        if call == 0 {
-            sheet = first;
-        } else {
-            run(tape, sheet, at, call, first, case);
+        let call = Call::take(&mut calls);
+        let lent = calls;
+        calls.pass_buffers(call.buffers());
+        if let Call::Sheet = call {
+            sheet = lent;
+        } else if let Some(words) = sheet.words() {
+            let case = Case {
+                number,
+                sheet: words,
+                lent,
+            };
+            case.run(out, call)?;
         }
-        at = past_all(tape, first, lent(call));
-        case += 1;
     }
+    Ok(())
 }
 
 fn main() {
-    let mut text = [0u8; 262144];
-    let n = io::read_full(0, &mut text);
-    let mut tape = [0i64; 65536];
+    let mut text = [0u8; 262_144];
+    let n = standard::read(&mut text);
+    let mut tape = [0i64; 65_536];
     let end = script::read(&text[..n], &mut tape);
-    run_all(&tape, end);
+    let _ = run_all(&mut Output, Cursor::new(&tape, end));
 }

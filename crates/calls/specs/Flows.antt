@@ -1,12 +1,9 @@
 -- 01, "Flow" under "Evaluation", and S6, and 02, CR 1, CR 6 and CR 7: what the calls first, next and run answer, and what they leave in each lent
 -- buffer. Each climbs the ladder first.
 -- Assumes nothing.
-use Rattle.std.specs.Prelude.{Bool, true, false, ◌&&◌, List, ℕ, ℤ, length, leb}
+use Rattle.std.specs.Prelude.{Bool, true, false, ◌&&◌, List, ℕ, ℤ, length, leb, Ok, Err}
 use Rattle.signed.specs.Words.{num}
-use Rattle.answer.specs.declared.Status.{Status}
-use Rattle.answer.specs.declared.Status.TheVariants.{Done}
-use Rattle.answer.specs.declared.Counted.{Counted}
-use Rattle.answer.specs.declared.Counted.TheVariants.{Refused as NoWalk}
+use Rattle.answer.specs.Answers.{Status, Counted}
 use Rattle.layout.specs.declared.Header.{Header}
 use Rattle.facts.specs.Lent.{LentFacts}
 use Rattle.facts.specs.Faults.{facts_fault}
@@ -17,8 +14,7 @@ use Rattle.instances.specs.Named.{gathered, scattered, has}
 use Rattle.walks.specs.Paths.{steps_of}
 use Rattle.listing.specs.Calls.{first_walk, first_laid, next_walk, next_laid}
 use Rattle.run.specs.Runs.{good_words, flow_covers, ran_walk, ran_path, ran_states}
-use Rattle.ladder.specs.declared.Climbed.{Climbed}
-use Rattle.ladder.specs.Ladder.{rungs, opened, climb, by, left, exists, matches, facts_lent}
+use Rattle.ladder.specs.Ladder.{Climbed, rungs, opened, climb, by, left, exists, matches, facts_lent}
 
 -- "Where the flow does not exist, slices sized by its steps are not judged": the flow's steps, or n, which then is right
 unfoldable pub steps_or : List ℤ → Header → ℤ → ℕ → ℕ
@@ -57,7 +53,7 @@ ran_states_over s h t states f words = let facts = assembled s h t in ran_states
 -- over the states of the named instances
 abbrev pub run_answer : List ℤ → LentFacts → LentStates → ℤ → List ℤ → List ℕ → Counted
 run_answer s t q f words b =
-    by (run_climb s t q f words (length b)) NoWalk (λ h. ran_walk_over s h t (gathered h q) (num f) words)
+    by (run_climb s t q f words (length b)) Err (λ h. ran_walk_over s h t (gathered h q) (num f) words)
 
 abbrev pub run_path : List ℤ → LentFacts → LentStates → ℤ → List ℤ → List ℕ → List ℕ
 run_path s t q f words b =
@@ -71,21 +67,21 @@ run_states s t q f words b =
 -- ---- S6: first and next: 1 to 5
 
 unfoldable pub flow_rungs : List ℤ → ℤ → ℕ → Header → Status
-flow_rungs s f room h = rungs (path_lent s h f room) (exists f h.flows) Done Done
+flow_rungs s f room h = rungs (path_lent s h f room) (exists f h.flows) (Ok tt) (Ok tt)
 
 abbrev pub flow_climb : List ℤ → ℤ → ℕ → Climbed
 flow_climb s f room = climb (opened s) (flow_rungs s f room)
 
 -- "First puts path 0 in the buffer"
 abbrev pub first_answer : List ℤ → ℤ → List ℕ → Counted
-first_answer s f b = by (flow_climb s f (length b)) NoWalk (λ h. first_walk s h (num f))
+first_answer s f b = by (flow_climb s f (length b)) Err (λ h. first_walk s h (num f))
 
 abbrev pub first_path : List ℤ → ℤ → List ℕ → List ℕ
 first_path s f b = left (flow_climb s f (length b)) b (λ h. first_laid s h (num f) b)
 
 -- "next puts the path that follows the one it finds there"; 12 and 13 are among its answers
 abbrev pub next_answer : List ℤ → ℤ → List ℕ → Counted
-next_answer s f b = by (flow_climb s f (length b)) NoWalk (λ h. next_walk s h (num f) b)
+next_answer s f b = by (flow_climb s f (length b)) Err (λ h. next_walk s h (num f) b)
 
 abbrev pub next_path : List ℤ → ℤ → List ℕ → List ℕ
 next_path s f b = left (flow_climb s f (length b)) b (λ h. next_laid s h (num f) b)

@@ -1,14 +1,9 @@
 -- 01, "Reports": what the calls for S1 to S5 and S7 answer. Each climbs the ladder first: the sheet, then 5 for a number that does not exist;
 -- then it answers the number, the mask with its scans, or 1 for yes and 0 for no.
 -- Assumes nothing.
-use Rattle.std.specs.Prelude.{Bool, true, cond, ◌&&◌, List, ℕ, ℤ}
+use Rattle.std.specs.Prelude.{Bool, true, cond, ◌&&◌, List, ℕ, ℤ, Ok, Err}
 use Rattle.signed.specs.Words.{num}
-use Rattle.answer.specs.declared.Status.{Status}
-use Rattle.answer.specs.declared.Status.TheVariants.{Done}
-use Rattle.answer.specs.declared.Count.{Count}
-use Rattle.answer.specs.declared.Count.TheVariants.{Is, Refused as NoCount}
-use Rattle.answer.specs.declared.Counted.{Counted}
-use Rattle.answer.specs.declared.Counted.TheVariants.{Is as IsCounted, Refused as NotCounted}
+use Rattle.answer.specs.Answers.{tallied, Status, Count, Counted}
 use Rattle.layout.specs.declared.Header.{Header}
 use Rattle.records.specs.Rules.{stratum}
 use Rattle.records.specs.Entities.{states}
@@ -17,19 +12,18 @@ use Rattle.tree.specs.Sizes.{tree_size}
 use Rattle.depth.specs.Depth.{depth}
 use Rattle.reach.specs.Reached.{reachable, scans}
 use Rattle.causes.specs.Causes.{admissible, can_cause}
-use Rattle.ladder.specs.declared.Climbed.{Climbed}
-use Rattle.ladder.specs.Ladder.{rungs, opened, climb, by, exists}
+use Rattle.ladder.specs.Ladder.{Climbed, rungs, opened, climb, by, exists}
 
 -- 5: the numbers that a report takes exist under the header
 unfoldable pub report_rungs : (Header → Bool) → Header → Status
-report_rungs numbers h = rungs true (numbers h) Done Done
+report_rungs numbers h = rungs true (numbers h) (Ok tt) (Ok tt)
 
 abbrev pub report_climb : List ℤ → (Header → Bool) → Climbed
 report_climb s numbers = climb (opened s) (report_rungs numbers)
 
 -- a report answers one number
 abbrev pub reported : List ℤ → (Header → Bool) → (Header → ℕ) → Count
-reported s numbers answer = by (report_climb s numbers) NoCount (λ h. Is (answer h))
+reported s numbers answer = by (report_climb s numbers) Err (λ h. Ok (answer h))
 
 -- the states of an entity that exists are 0..states−1
 unfoldable pub state_exists : List ℤ → Header → ℤ → ℤ → Bool
@@ -46,7 +40,7 @@ states_answer s e = reported s (λ h. exists e h.entities) (λ h. states s h (nu
 -- S2: "a mask of states reached from the initial one by zero or more declared transitions"; 02, CR 5: "also returns its scans"
 abbrev pub reachable_answer : List ℤ → ℤ → Counted
 reachable_answer s e =
-    by (report_climb s (λ h. exists e h.entities)) NotCounted (λ h. IsCounted (reachable s h (num e)) (scans s h (num e)))
+    by (report_climb s (λ h. exists e h.entities)) Err (λ h. tallied (reachable s h (num e)) (scans s h (num e)))
 
 -- S3a: "yes for (entity, state, persona, operation) if the mask has the persona, an effect starts from that state of that entity, and the
 -- precondition's range includes 1"
@@ -65,7 +59,7 @@ can_cause_answer s p e a b = reported s (cause_numbers s p e a b) (λ h. yes_no 
 
 -- S5: "the number of rules". It takes no number, so nothing but the sheet is refused
 abbrev pub rules_answer : List ℤ → Count
-rules_answer s = by (opened s) NoCount (λ h. Is h.rules)
+rules_answer s = by (opened s) Err (λ h. Ok h.rules)
 
 -- "a rule's stratum"
 abbrev pub stratum_answer : List ℤ → ℤ → Count

@@ -1,5 +1,6 @@
 -- Whatever an attempt does, S3a and S4 say of that persona; and it leaves the states within S2.
 -- Assumes nothing.
+use Rattle.std.specs.Prelude.{Option, Ok, Err}
 use mathlib.Core.Path.{◌≡◌, refl, sym, ap, subst, ◌∙◌}
 use mathlib.Core.Bool.{true}
 use mathlib.Core.List.{List}
@@ -7,8 +8,7 @@ use Prim.Native.Nat.{ℕ, ◌<◌}
 use lib.IntN.{ℤ}
 use Rattle.tables.proofs.Bools.{tests}
 use Rattle.tables.proofs.Scans.{any_of}
-use Rattle.answer.specs.declared.Count.{Count}
-use Rattle.answer.specs.declared.Count.TheVariants.{Is, Refused}
+use Rattle.answer.specs.Answers.{Count}
 use Rattle.signed.specs.Words.{num}
 use Rattle.signed.proofs.Bounds.{true_in}
 use Rattle.signed.proofs.Numbers.{num_of}
@@ -16,13 +16,8 @@ use Rattle.layout.specs.declared.Header.{Header}
 use Rattle.layout.specs.Tables.{operation, effect}
 use Rattle.node.specs.FactValues.{FactValue}
 use Rattle.records.proofs.OperationLaws.{operation_ok}
-use Rattle.predicate.specs.Values.{truth}
 use Rattle.predicate.proofs.ValueLaws.{true_in_range}
-use Rattle.operation.specs.declared.Choice.TheVariants.{Outcome}
-use Rattle.operation.specs.declared.Wanted.{Wanted}
-use Rattle.operation.specs.Mask.{allowed}
 use Rattle.operation.specs.States.{present}
-use Rattle.operation.specs.Outcomes.{chosen}
 use Rattle.operation.specs.Inner.{performed}
 use Rattle.operation.proofs.Movers.{Moves}
 use Rattle.operation.proofs.Guarantees.{Changed, performed_by, changes}
@@ -36,12 +31,12 @@ use Rattle.causes.specs.Causes.{can_be_true, admissible, causes, can_cause}
 use Rattle.causes.proofs.Effects.{some_of}
 
 module _ {s : List ℤ} {h : Header} {facts : List FactValue} {verdicts states : List ℤ} {p o : ℕ} (w : Attemptable s h facts verdicts states p o)
-    (d : Wanted) where
+    (d : Option ℕ) where
   -- what an attempt that is not refused chose
-  went : (j : ℕ) → attempted s h facts verdicts states p o d ≡ Is j → Chose s h facts verdicts states p o d (Outcome j)
-  went j q = chose_so s h facts verdicts states p o d (Outcome j) q
+  went : (j : ℕ) → attempted s h facts verdicts states p o d ≡ Ok j → Chose s h facts verdicts states p o d (Ok j)
+  went j q = chose_so s h facts verdicts states p o d (Ok j) tt q
 
-  module _ (j : ℕ) (q : attempted s h facts verdicts states p o d ≡ Is j) where
+  module _ (j : ℕ) (q : attempted s h facts verdicts states p o d ≡ Ok j) where
     -- its precondition's range includes 1
     pub could_be_true : can_be_true s h o ≡ true
     unfolding can_be_true
@@ -76,13 +71,13 @@ module _ {s : List ℤ} {h : Header} {facts : List FactValue} {verdicts states :
   caused n a b l ea eb x = go (attempted s h facts verdicts states p o d) refl
     where
       go : (r : Count) → attempted s h facts verdicts states p o d ≡ r → (admissible s h n a p o ≡ true) × (can_cause s h p n a b ≡ true)
-      go (Refused r) q = absurd (x (sym ea ∙ sym (ap (λ (t : List ℤ). present t n) (refused_states s h facts verdicts states p o d r q)) ∙ eb))
-      go (Is j) q =
+      go (Err r) q = absurd (x (sym ea ∙ sym (ap (λ (t : List ℤ). present t n) (refused_states s h facts verdicts states p o d r q)) ∙ eb))
+      go (Ok j) q =
           let same = outcome_states s h facts verdicts states p o d j q ∙ sym (performed_by s h states o d j (went j q).chosen) in
           let c = changes w.ready d n l (λ z. x (sym ea ∙ sym (ap num z) ∙ ap (λ (t : List ℤ). present t n) (sym same) ∙ eb)) in
           along c.0 c.1 c.2 q same
         where
-          along : (i e : ℕ) → Changed s h states o d i n e → attempted s h facts verdicts states p o d ≡ Is j
+          along : (i e : ℕ) → Changed s h states o d i n e → attempted s h facts verdicts states p o d ≡ Ok j
               → attempted_states s h facts verdicts states p o d ≡ performed s h states o d
               → (admissible s h n a p o ≡ true) × (can_cause s h p n a b ≡ true)
           along i e k q same =
@@ -99,7 +94,7 @@ module _ {s : List ℤ} {h : Header} {facts : List FactValue} {verdicts states :
   reached_attempt n l v = go (attempted s h facts verdicts states p o d) refl
     where
       go : (r : Count) → attempted s h facts verdicts states p o d ≡ r → Reached s h n (present (attempted_states s h facts verdicts states p o d) n)
-      go (Refused r) q = rw (refused_states s h facts verdicts states p o d r q) v
-      go (Is j) q =
+      go (Err r) q = rw (refused_states s h facts verdicts states p o d r q) v
+      go (Ok j) q =
           rw (outcome_states s h facts verdicts states p o d j q, ← performed_by s h states o d j (went j q).chosen)
           (reached_after w.ready d n l v)

@@ -1,12 +1,11 @@
 -- Some effect of an operation passes a test: what that says, and the scan of the effects.
 -- Assumes nothing.
-use mathlib.Core.Path.{◌≡◌, refl, sym, ◌∙◌}
-use mathlib.Core.Bool.{Bool, true, false, not, ◌&&◌, ◌||◌}
+use mathlib.Core.Path.{◌≡◌, sym, ◌∙◌}
+use mathlib.Core.Bool.{Bool, true, false}
 use mathlib.Core.List.{List}
 use mathlib.Core.Logic.{◌⊎◌, inl, inr}
 use Prim.Native.Nat.{ℕ, ◌+◌, ◌*◌, ◌≤◌, ◌<◌}
 use lib.IntN.{ℤ}
-use lib.Dec.{eqb}
 use lib.ListN.{length}
 use native.Mathlib.Omega.{arith}
 use native.Mathlib.Decide.{dec_lt}
@@ -24,14 +23,13 @@ use Rattle.operation.specs.Inner.{effects_of}
 use Rattle.operation.proofs.Targets.{first_is, end_is}
 use Rattle.reach.specs.Moves.{leaves, leads}
 use Rattle.causes.specs.Causes.{effect_passes, some_effect}
-use Rattle.causes.specs.Inner.{wanted}
 
 -- effect e is one of operation o's, and passes f
-pub record Passes (s : List ℤ) (h : Header) (o : ℕ) (f : Record → Bool) (e : ℕ) : Type 0 where
+pub record Passes (s : List ℤ) (h : Header) (o : ℕ) (f : Record ℕ → Bool) (e : ℕ) : Type 0 where
   pub of : Of s h o e
   pub passes : f (effect s h e) ≡ true
 
-module _ (s : List ℤ) (h : Header) (o : ℕ) (f : Record → Bool) where
+module _ (s : List ℤ) (h : Header) (o : ℕ) (f : Record ℕ → Bool) where
   passes_true : (e : ℕ) → effect_passes s h o f e ≡ true → Passes s h o f e
   unfolding effect_passes
   passes_true e p = let q = simp tests at p in record { of = record { low = q.0.0; high = q.0.1 }; passes = q.1 }
@@ -64,25 +62,15 @@ leads_leaves {s} {h} w o l n a b p =
     let q = some_at s h o (leads n a b) p in
     some_of s h o (leaves n a) w l q.0 (record { of = q.1.of; passes = and_left _ _ q.1.passes })
 
--- the code's test of an effect
-pub wanted_as : (on : Bool) (n a b : ℕ) (r : Record) → (leaves n a r && (not on || eqb r.w2 b)) ≡ wanted on n a b r
-unfolding wanted leads
-wanted_as true n a b r = refl
-wanted_as false n a b r = and_yes (leaves n a r)
-  where
-    and_yes : (x : Bool) → (x && true) ≡ x
-    and_yes true = refl
-    and_yes false = refl
-
 -- ---- the scan
 
 -- none of the effects from `first` up to e passes; they stand from record `base` on
-pub record Missed (s : List ℤ) (f : Record → Bool) (base first end e : ℕ) : Type 0 where
+pub record Missed (s : List ℤ) (f : Record ℕ → Bool) (base first end e : ℕ) : Type 0 where
   pub order : first ≤ e
   pub here : e ≤ end
   pub each : (j : ℕ) → first ≤ j → j < e → f (record_at s (base + j)) ≡ false
 
-pub missed_more : (s : List ℤ) (f : Record → Bool) (base first end e : ℕ) (r : Record) (v : Bool) → Missed s f base first end e → e < end
+pub missed_more : (s : List ℤ) (f : Record ℕ → Bool) (base first end e : ℕ) (r : Record ℕ) (v : Bool) → Missed s f base first end e → e < end
     → r ≡ record_at s (base + e) → v ≡ f r → v ≡ false
     → Missed s f base first end (e + 1)
 missed_more s f base first end e r v w l q p z = record { order = omega (arith, w.order); here = omega arith; each = λ j a b. go j a b (dec_lt j e) }
@@ -103,11 +91,11 @@ module _ {s : List ℤ} {h : Header} (a : Accepted s h) (o : ℕ) (l : o < h.ope
   pub small : (e : ℕ) → e < x.end → base + e < 4096
   small e k = omega (arith, b, exists e k, a.sized.limits)
 
-  module _ (f : Record → Bool) where
+  module _ (f : Record ℕ → Bool) where
     pub outset : Missed s f base x.first x.end x.first
     outset = record { order = omega arith; here = omega (arith, first_is s h o x t, end_is s h o x t); each = λ j p q. absurd (omega arith) }
 
-    pub hit : (e : ℕ) (r : Record) (v : Bool) → Missed s f base x.first x.end e → e < x.end → r ≡ record_at s (base + e) → v ≡ f r → v ≡ true
+    pub hit : (e : ℕ) (r : Record ℕ) (v : Bool) → Missed s f base x.first x.end e → e < x.end → r ≡ record_at s (base + e) → v ≡ f r → v ≡ true
         → true ≡ some_effect s h o f
     hit e r v w k q p z =
         sym (some_of s h o f a l e (record {

@@ -13,11 +13,11 @@ use Rattle.operation.specs.Mask.{allowed}
 use Rattle.reach.specs.Moves.{leaves, leads}
 
 -- effect e is one of operation o's, and passes the test f
-unfoldable pub effect_passes : List ℤ → Header → ℕ → (Record → Bool) → ℕ → Bool
+unfoldable pub effect_passes : List ℤ → Header → ℕ → (Record ℕ → Bool) → ℕ → Bool
 effect_passes s h o f e = leb (effect_start_of (operation s h o)) e && ltb e (effects_end s h o) && f (effect s h e)
 
 -- some effect of operation o passes the test f
-unfoldable pub some_effect : List ℤ → Header → ℕ → (Record → Bool) → Bool
+unfoldable pub some_effect : List ℤ → Header → ℕ → (Record ℕ → Bool) → Bool
 some_effect s h o f = any_below (effect_passes s h o f) h.effects
 
 -- a range includes 1

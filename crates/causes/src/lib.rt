@@ -3,93 +3,79 @@
 
 ghost use Rattle.std.specs.Prelude.{◌≡◌, ◌<◌};
 ghost use Rattle.records.specs.Accepted.{Accepted};
-ghost use Rattle.causes.specs.Causes.{some_effect, can_be_true, admissible, can_cause};
+ghost use Rattle.causes.specs.Causes.{some_effect, can_be_true, admissible, causes, can_cause};
 ghost use Rattle.causes.specs.Inner.{wanted};
 
-use layout::{Entity, Header, Node, Operation, Persona, place};
+use layout::{Entity, Node, Operation, Persona, place};
 use operation::{allows, effects_of};
 use predicate::can_hold;
 use reach::leaves;
+use records::Contract;
 use words::{Record, number, record_at};
 
-// Whether an effect is entity n's and starts from that state; with `on`, also that it leads to the other.
-fn wanted(on: bool, n: Entity, from: usize, to: usize, r: Record) -> bool
-    ensures { result ≡ wanted on n.0 from to r }
+// Whether an effect is entity n's and starts from that state, and leads to the other where one is given.
+#[tactic(auto, unfolding(crate::specs::Inner::wanted, reach::specs::Moves::leads))]
+fn wanted(n: Entity, from: usize, to: Option<usize>, r: Record<usize>) -> bool
+    ensures { result ≡ wanted n.0 from to r }
 {
-    leaves(n, from, r) & (!on | (r.w2 == to))
+    leaves(n, from, r) & to.is_none_or(|b| r.w2 == b)
 }
 
 // Whether an effect of the operation is one that is wanted.
-fn some_effect(
-    s: &[i64],
-    h: Header,
-    o: Operation,
-    on: bool,
-    n: Entity,
-    from: usize,
-    to: usize,
-) -> bool
-    requires accepted { Accepted s.now h }
-    requires o_lt_operations { o.0 < h.operations }
-    ensures { result ≡ some_effect s.now h o.0 (wanted on n.0 from to) }
+fn some_effect(s: &Contract, o: Operation, n: Entity, from: usize, to: Option<usize>) -> bool
+    requires { o.0 < s.now.sheet.header.operations }
+    ensures { result ≡ some_effect s.now.sheet.words.now s.now.sheet.header o.0 (wanted n.0 from to) }
 {
-    let effects = effects_of(s, h, o);
-    let end = effects.end;
-    let base = h.first_effect();
-    let mut e = effects.first;
-    while e < end {
-        if wanted(on, n, from, to, record_at(s, base + e)) {
+    let effects = effects_of(s, o);
+    let base = s.sheet.header.first_effect();
+    for e in effects.first..effects.end {
+        if wanted(n, from, to, record_at(s.sheet.words, base + e)) {
             return true;
         }
-        e += 1;
     }
     false
 }
 
 // Whether the range of the operation's precondition includes 1.
-fn can_be_true(s: &[i64], h: Header, o: Operation) -> bool
-    requires accepted { Accepted s.now h }
-    requires o_lt_operations { o.0 < h.operations }
-    ensures { result ≡ can_be_true s.now h o.0 }
+fn can_be_true(s: &Contract, o: Operation) -> bool
+    requires { o.0 < s.now.sheet.header.operations }
+    ensures { result ≡ can_be_true s.now.sheet.words.now s.now.sheet.header o.0 }
 {
     can_hold(
         s,
-        h,
-        Node(number(s, h.first_operation() + o.0, place::OPERATION_PRECONDITION)),
+        Node(number(
+            s.sheet.words,
+            s.sheet.header.first_operation() + o.0,
+            place::OPERATION_PRECONDITION,
+        )),
     )
 }
 
 // S3a. The range is worked out last, and only where the rest holds.
-pub fn admissible(s: &[i64], h: Header, n: Entity, state: usize, p: Persona, o: Operation) -> bool
-    requires accepted { Accepted s.now h }
-    requires p_lt_personas { (p.0 < h.personas) × (o.0 < h.operations) }
-    ensures { result ≡ admissible s.now h n.0 state p.0 o.0 }
+#[tactic(auto, unfolding(crate::specs::Causes::admissible, crate::specs::Inner::wanted))]
+pub fn admissible(s: &Contract, n: Entity, state: usize, p: Persona, o: Operation) -> bool
+    requires { (p.0 < s.now.sheet.header.personas) × (o.0 < s.now.sheet.header.operations) }
+    ensures { result ≡ admissible s.now.sheet.words.now s.now.sheet.header n.0 state p.0 o.0 }
 {
-    if allows(s, h, o, p) & some_effect(s, h, o, false, n, state, 0) {
-        can_be_true(s, h, o)
-    } else {
-        false
-    }
+    allows(&s.sheet, o, p) && some_effect(s, o, n, state, None) && can_be_true(s, o)
 }
 
-// S4, in one pass: an effect from that state to the other starts from that state.
-pub fn can_cause(s: &[i64], h: Header, p: Persona, n: Entity, from: usize, to: usize) -> bool
-    requires accepted { Accepted s.now h }
-    requires p_lt_personas { p.0 < h.personas }
-    ensures { result ≡ can_cause s.now h p.0 n.0 from to }
+// The same of an operation with an effect from that state to the other. Such an effect starts from that state, so it is looked for alone.
+fn causes(s: &Contract, p: Persona, n: Entity, from: usize, to: usize, o: Operation) -> bool
+    requires { (p.0 < s.now.sheet.header.personas) × (o.0 < s.now.sheet.header.operations) }
+    ensures { result ≡ causes s.now.sheet.words.now s.now.sheet.header p.0 n.0 from to o.0 }
 {
-    let mut o = 0;
-    while o < h.operations {
-        let operation = Operation(o);
-        let may = allows(s, h, operation, p);
-        let does = some_effect(s, h, operation, true, n, from, to);
-        if may & does {
-            if can_be_true(s, h, operation) {
-                return true;
-            }
-            o += 1;
-        } else {
-            o += 1;
+    allows(&s.sheet, o, p) && some_effect(s, o, n, from, Some(to)) && can_be_true(s, o)
+}
+
+// S4, in one pass.
+pub fn can_cause(s: &Contract, p: Persona, n: Entity, from: usize, to: usize) -> bool
+    requires { p.0 < s.now.sheet.header.personas }
+    ensures { result ≡ can_cause s.now.sheet.words.now s.now.sheet.header p.0 n.0 from to }
+{
+    for o in 0..s.sheet.header.operations {
+        if causes(s, p, n, from, to, Operation(o)) {
+            return true;
         }
     }
     false

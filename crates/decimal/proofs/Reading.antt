@@ -1,6 +1,7 @@
 -- The reader's steps against the decimal: what is read is the decimal of a word that has a text (`sound`), and every such decimal that
 -- no digit follows is read (`complete`).
 -- Assumes nothing.
+use Rattle.std.specs.Prelude.{Option, Some, None}
 use Prim.Native.Nat.{ℕ, zero, suc, ◌+◌, ◌-◌, ◌*◌, ◌≤◌, ◌<◌}
 use mathlib.Core.Path.{◌≡◌, refl, sym, ◌∙◌, ap, subst}
 use mathlib.Core.Bool.{Bool, true, false, cond, ◌&&◌, ◌||◌, and-eq-true_iff, true≢false}
@@ -15,10 +16,7 @@ use lib.Seq.{append_snoc, drop-append_seam, drop-drop, drop-cons, get_or-drop, g
 use Rattle.decimal.specs.Decimal.{M, digits, sign, decimal, has_text, is_digit, magnitude, value}
 use Rattle.decimal.specs.Scan.{goes_on, run_at, bounded_run, number_at, positive_word, negative_word, word_at, closed_word, field_at}
 use Rattle.decimal.specs.declared.Run.{Run}
-use Rattle.decimal.specs.declared.Number.{Number}
-use Rattle.decimal.specs.declared.Number.TheVariants.{Is, Bad}
-use Rattle.decimal.specs.declared.Word.{Word}
-use Rattle.decimal.specs.declared.Word.TheVariants.{Is as IsWord, Bad as NoWord}
+use Rattle.decimal.specs.declared.Field.{Field}
 use Rattle.decimal.proofs.Digits.{digits_one, digits_more, digit_ind}
 
 -- a digit's byte and its value
@@ -91,9 +89,9 @@ run_sound (b ∷ bs) m at p = go (goes_on m b) refl (run_sound bs (m * 10 + (b -
 -- ---- numbers
 
 -- what a number that is read says of the bytes: they are its digits
-abbrev pub NumberIs : List ℕ → ℕ → Number → Type 0
-NumberIs l at (Is m next) = (m ≤ M) × Taken l at next (digits m)
-NumberIs l at Bad = Unit {0}
+abbrev pub NumberIs : List ℕ → ℕ → Option Run → Type 0
+NumberIs l at (Some n) = (n.magnitude ≤ M) × Taken l at n.next (digits n.magnitude)
+NumberIs l at None = Unit {0}
 
 neither : (s t : Bool) → s || t ≡ false → (s ≡ false) × (t ≡ false)
 neither true t e = absurd (true≢false e)
@@ -103,7 +101,7 @@ bounded_sound : (l : List ℕ) (at : ℕ) (r : Run) → (0 < r.magnitude → Tak
 unfolding bounded_run
 bounded_sound l at r h = go (eqb r.magnitude 0 || ltb M r.magnitude) refl
   where
-    go : (t : Bool) → (eqb r.magnitude 0 || ltb M r.magnitude) ≡ t → NumberIs l at (cond t Bad (Is r.magnitude r.next))
+    go : (t : Bool) → (eqb r.magnitude 0 || ltb M r.magnitude) ≡ t → NumberIs l at (cond t None (Some r))
     go true e = tt
     go false e =
         let parts = neither (eqb r.magnitude 0) (ltb M r.magnitude) e in
@@ -133,7 +131,7 @@ unfolding number_at
 number_sound [] at = tt
 number_sound (b ∷ bs) at = go (eqb b 48) refl
   where
-    go : (t : Bool) → eqb b 48 ≡ t → NumberIs (b ∷ bs) at (cond t (Is 0 (at + 1)) (bounded_run (run_at 0 at (b ∷ bs))))
+    go : (t : Bool) → eqb b 48 ≡ t → NumberIs (b ∷ bs) at (cond t (Some (record { magnitude = 0; next = at + 1 })) (bounded_run (run_at 0 at (b ∷ bs))))
     go true e =
         let zero-digit : digits 0 ≡ 48 ∷ [] = digits_one 0 (omega arith) in (
           omega arith,
@@ -167,7 +165,7 @@ run_stops : (m at e : ℕ) (l : List ℕ) → is_digit e ≡ false → run_at m 
 unfolding run_at
 run_stops m at e l h = rw h
 
-bounded_complete : (m next : ℕ) → 0 < m → m ≤ M → bounded_run (record { magnitude = m; next = next }) ≡ Is m next
+bounded_complete : (m next : ℕ) → 0 < m → m ≤ M → bounded_run (record { magnitude = m; next = next }) ≡ Some (record { magnitude = m; next = next })
 unfolding bounded_run
 bounded_complete m next p h = rw (ne_eqb m 0 (λ e. omega arith), le-ltb M m h)
 
@@ -175,7 +173,7 @@ number_run : (xs : List ℕ) (b : ℕ) (bs : List ℕ) (at : ℕ) → xs ≡ b �
 unfolding number_at
 number_run xs b bs at p q = rw (p, q)
 
-number_complete : (m at e : ℕ) (l : List ℕ) → m ≤ M → is_digit e ≡ false → number_at at (digits m ++ e ∷ l) ≡ Is m (at + length (digits m))
+number_complete : (m at e : ℕ) (l : List ℕ) → m ≤ M → is_digit e ≡ false → number_at at (digits m ++ e ∷ l) ≡ Some (record { magnitude = m; next = at + length (digits m) })
 unfolding number_at
 number_complete zero at e l h q = rw (digits_one 0 (omega arith))
 number_complete (suc m) at e l h q =
@@ -188,28 +186,32 @@ number_complete (suc m) at e l h q =
 -- ---- words
 
 -- what a word that is read says of the bytes: they are its decimal
-abbrev pub WordIs : List ℕ → ℕ → Word → Type 0
-WordIs l at (IsWord v next) = (has_text v ≡ true) × Taken l at next (decimal v)
-WordIs l at NoWord = Unit {0}
+abbrev pub WordIs : List ℕ → ℕ → Option Field → Type 0
+WordIs l at (Some w) = (has_text w.value ≡ true) × Taken l at w.next (decimal w.value)
+WordIs l at None = Unit {0}
 
-positive_sound : (l : List ℕ) (at : ℕ) (n : Number) → NumberIs l at n → WordIs l at (positive_word n)
+positive_sound : (l : List ℕ) (at : ℕ) (n : Option Run) → NumberIs l at n → WordIs l at (positive_word n)
 unfolding positive_word has_text decimal sign
-positive_sound l at (Is m next) h = (le-leb m M h.0, h.1)
-positive_sound l at Bad h = tt
+positive_sound l at (Some n) h = (le-leb n.magnitude M h.0, h.1)
+positive_sound l at None h = tt
 
-negative_some : (m next : ℕ) → negative_word (Is (suc m) next) ≡ IsWord (negsuc m) next
+negative_some : (m next : ℕ) → negative_word (Some (record { magnitude = suc m; next = next })) ≡ Some (record { value = negsuc m; next = next })
 unfolding negative_word
 negative_some m next = rw (eqb-suc-zero m)
 
-negative_sound : (bs : List ℕ) (at : ℕ) (n : Number) → NumberIs bs (at + 1) n → WordIs (45 ∷ bs) at (negative_word n)
+negative_sound : (bs : List ℕ) (at : ℕ) (n : Option Run) → NumberIs bs (at + 1) n → WordIs (45 ∷ bs) at (negative_word n)
 unfolding negative_word has_text decimal sign
-negative_sound bs at (Is zero next) h = tt
-negative_sound bs at (Is (suc m) next) h =
-    rw negative_some (
-      le-leb (suc m) M h.0,
-      record { rest = h.1.rest; split = ap (λ (xs : List ℕ). 45 ∷ xs) h.1.split; place = omega (arith, h.1.place) },
-    )
-negative_sound bs at Bad h = tt
+negative_sound bs at (Some n) h = go n.magnitude n.next h
+  where
+    go : (m next : ℕ) → NumberIs bs (at + 1) (Some (record { magnitude = m; next = next }))
+        → WordIs (45 ∷ bs) at (negative_word (Some (record { magnitude = m; next = next })))
+    go zero next h = tt
+    go (suc m) next h =
+        rw negative_some (
+          le-leb (suc m) M h.0,
+          record { rest = h.1.rest; split = ap (λ (xs : List ℕ). 45 ∷ xs) h.1.split; place = omega (arith, h.1.place) },
+        )
+negative_sound bs at None h = tt
 
 pub word_sound : (l : List ℕ) (at : ℕ) → WordIs l at (word_at at l)
 unfolding word_at
@@ -227,7 +229,7 @@ unfolding word_at
 word_plain xs b bs at p q = rw (p, ne_eqb b 45 (λ e. omega (arith, (digit_range b q).0)))
 
 pub word_complete : (v : ℤ) (at e : ℕ) (l : List ℕ) → has_text v ≡ true → is_digit e ≡ false
-    → word_at at (decimal v ++ e ∷ l) ≡ IsWord v (at + length (decimal v))
+    → word_at at (decimal v ++ e ∷ l) ≡ Some (record { value = v; next = at + length (decimal v) })
 unfolding decimal sign has_text word_at positive_word negative_word
 word_complete (pos n) at e l h q =
     let head = digits_head n in
@@ -236,18 +238,18 @@ word_complete (pos n) at e l h q =
 word_complete (negsuc n) at e l h q =
     ap negative_word (number_complete (suc n) (at + 1) e l (leb-true (suc n) M h) q)
     ∙ negative_some n (at + 1 + length (digits (suc n)))
-    ∙ ap (IsWord (negsuc n)) (omega arith)
+    ∙ ap (λ (k : ℕ). Some (record { value = negsuc n; next = k })) (omega arith)
 
 -- two decimals that one byte ends, no digit, are of one word
-word_of : Word → ℤ
-word_of (IsWord v next) = v
-word_of NoWord = pos 0
+word_of : Option Field → ℤ
+word_of (Some w) = w.value
+word_of None = pos 0
 
 pub decimal_unique : (v w : ℤ) (e : ℕ) (xs ys : List ℕ) → has_text v ≡ true → has_text w ≡ true → is_digit e ≡ false
     → decimal v ++ e ∷ xs ≡ decimal w ++ e ∷ ys → (v ≡ w) × (xs ≡ ys)
 unfolding word_of
 decimal_unique v w e xs ys hv hw q s =
-    let read : IsWord v (0 + length (decimal v)) ≡ IsWord w (0 + length (decimal w)) =
+    let read : ◌≡◌ {A = Option Field} (Some (record { value = v; next = 0 + length (decimal v) })) (Some (record { value = w; next = 0 + length (decimal w) })) =
     sym (word_complete v 0 e xs hv q) ∙ ap (word_at 0) s ∙ word_complete w 0 e ys hw q in
     let one : v ≡ w = ap word_of read in
     let rest : e ∷ xs ≡ e ∷ ys =
@@ -285,50 +287,51 @@ pub record FieldIs (text : List ℕ) (at end : ℕ) (v : ℤ) (next : ℕ) : Typ
   pub later : at < next
   pub within : next ≤ length text
 
-abbrev FieldWord : List ℕ → ℕ → ℕ → Word → Type 0
-FieldWord text at end (IsWord v next) = FieldIs text at end v next
-FieldWord text at end NoWord = Unit {0}
+abbrev FieldWord : List ℕ → ℕ → ℕ → Option Field → Type 0
+FieldWord text at end (Some w) = FieldIs text at end w.value w.next
+FieldWord text at end None = Unit {0}
 
-closed_sound : (text : List ℕ) (at end : ℕ) (w : Word) → WordIs (drop at text) at w → FieldWord text at end (closed_word text end w)
+closed_sound : (text : List ℕ) (at end : ℕ) (w : Option Field) → WordIs (drop at text) at w → FieldWord text at end (closed_word text end w)
 unfolding closed_word
-closed_sound text at end (IsWord v next) h = go (ltb next (length text) && eqb (get_or text next 0) end) refl
+closed_sound text at end (Some w) h = go (ltb w.next (length text) && eqb (get_or text w.next 0) end) refl
   where
-    go : (t : Bool) → (ltb next (length text) && eqb (get_or text next 0) end) ≡ t → FieldWord text at end (cond t (IsWord v (next + 1)) NoWord)
+    go : (t : Bool) → (ltb w.next (length text) && eqb (get_or text w.next 0) end) ≡ t
+        → FieldWord text at end (cond t (Some (record { value = w.value; next = w.next + 1 })) None)
     go true e =
-        let parts = (and-eq-true_iff (ltb next (length text)) (eqb (get_or text next 0) end)).0 e in
-        let inside : next < length text = ltb-true next (length text) parts.0 in
-        let rest : h.1.rest ≡ drop next text =
-        sym (drop-append_seam (decimal v) h.1.rest)
-        ∙ ap (drop (length (decimal v))) (sym h.1.split)
-        ∙ drop-drop (length (decimal v)) at text
+        let parts = (and-eq-true_iff (ltb w.next (length text)) (eqb (get_or text w.next 0) end)).0 e in
+        let inside : w.next < length text = ltb-true w.next (length text) parts.0 in
+        let rest : h.1.rest ≡ drop w.next text =
+        sym (drop-append_seam (decimal w.value) h.1.rest)
+        ∙ ap (drop (length (decimal w.value))) (sym h.1.split)
+        ∙ drop-drop (length (decimal w.value)) at text
         ∙ ap (λ (k : ℕ). drop k text) (sym h.1.place) in
-        let ended : drop next text ≡ end ∷ drop (next + 1) text =
-        rw (add-one, ← eqb-true (get_or text next 0) end parts.1) (drop-cons text next 0 inside) in
+        let ended : drop w.next text ≡ end ∷ drop (w.next + 1) text =
+        rw (add-one, ← eqb-true (get_or text w.next 0) end parts.1) (drop-cons text w.next 0 inside) in
         record {
           permitted = h.0;
-          split = h.1.split ∙ ap (λ (xs : List ℕ). decimal v ++ xs) (rest ∙ ended);
+          split = h.1.split ∙ ap (λ (xs : List ℕ). decimal w.value ++ xs) (rest ∙ ended);
           later = omega (arith, h.1.place);
           within = omega arith;
         }
     go false e = tt
-closed_sound text at end NoWord h = tt
+closed_sound text at end None h = tt
 
-pub field_sound : (text : List ℕ) (at end : ℕ) (v : ℤ) (next : ℕ) → field_at text at end ≡ IsWord v next → FieldIs text at end v next
+pub field_sound : (text : List ℕ) (at end : ℕ) (w : Field) → field_at text at end ≡ Some w → FieldIs text at end w.value w.next
 unfolding field_at
-field_sound text at end v next e =
+field_sound text at end w e =
     subst (FieldWord text at end) e (closed_sound text at end (word_at at (drop at text)) (word_sound (drop at text) at))
 
-pub closed_complete : (text : List ℕ) (end : ℕ) (v : ℤ) (next : ℕ) → next < length text → get_or text next 0 ≡ end
-    → closed_word text end (IsWord v next) ≡ IsWord v (next + 1)
+pub closed_complete : (text : List ℕ) (end : ℕ) (w : Field) → w.next < length text → get_or text w.next 0 ≡ end
+    → closed_word text end (Some w) ≡ Some (record { value = w.value; next = w.next + 1 })
 unfolding closed_word
-closed_complete text end v next p q = rw (lt-ltb next (length text) p, eq-eqb (get_or text next 0) end q)
+closed_complete text end w p q = rw (lt-ltb w.next (length text) p, eq-eqb (get_or text w.next 0) end q)
 
 pub field_complete : (text : List ℕ) (at end : ℕ) (v : ℤ) (l : List ℕ) → has_text v ≡ true → is_digit end ≡ false → drop at text ≡ decimal v ++ end ∷ l
-    → field_at text at end ≡ IsWord v (at + length (decimal v) + 1)
+    → field_at text at end ≡ Some (record { value = v; next = at + length (decimal v) + 1 })
 unfolding field_at
 field_complete text at end v l h q e =
     ap (λ (xs : List ℕ). closed_word text end (word_at at xs)) e
     ∙ ap (closed_word text end) (word_complete v at end l h q)
-    ∙ closed_complete text end v (at + length (decimal v))
+    ∙ closed_complete text end (record { value = v; next = at + length (decimal v) })
     (omega (arith, length-drop at text, ap length e, length-append (decimal v) (end ∷ l)))
     (sym (get_or-drop at text (length (decimal v)) 0) ∙ ap (λ (xs : List ℕ). get_or xs (length (decimal v)) 0) e ∙ get_or-append_seam (decimal v) end l 0)

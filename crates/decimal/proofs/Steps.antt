@@ -1,23 +1,18 @@
 -- The reader's steps, at a place of the text: what its tests make of each definition.
 -- Assumes nothing.
+use Rattle.std.specs.Prelude.{Option, Some, None}
 use Prim.Native.Nat.{ℕ, ◌+◌, ◌-◌, ◌*◌, ◌≤◌, ◌<◌}
-use mathlib.Core.Path.{◌≡◌, refl, sym, ap, subst}
+use mathlib.Core.Path.{◌≡◌, refl, sym, ap}
 use mathlib.Core.Bool.{true, false}
 use mathlib.Core.List.{List}
 use native.Mathlib.Numerals.{add-one}
 use lib.ListN.{length, drop, get_or, drop_of_length-le}
 use lib.Seq.{drop-cons}
 use borrow.Author.Tests.{eq-eqb, ne_eqb, lt-ltb, le-ltb}
-use lib.IntN.{ℤ}
-use mir.Syntax.{w64}
-use mir.Val.{SFits}
-use Rattle.decimal.specs.Scan.{goes_on, run_at, bounded_run, number_at, positive_word, negative_word, word_at, closed_word, field_at, Small}
-use Rattle.decimal.specs.declared.Number.{Number}
-use Rattle.decimal.specs.declared.Number.TheVariants.{Is, Bad}
-use Rattle.decimal.specs.declared.Word.{Word}
-use Rattle.decimal.specs.declared.Word.TheVariants.{Is as IsWord, Bad as NoWord}
-use Rattle.decimal.proofs.Reading.{NumberIs, number_sound, WordIs, word_sound, field_sound}
-use Rattle.decimal.proofs.Signed.{fits_word}
+use Rattle.decimal.specs.Scan.{goes_on, run_at, bounded_run, number_at, positive_word, negative_word, word_at, closed_word, Small}
+use Rattle.decimal.specs.declared.Run.{Run}
+use Rattle.decimal.specs.declared.Field.{Field}
+use Rattle.decimal.proofs.Reading.{NumberIs, number_sound, field_sound, closed_complete}
 
 -- ---- a run
 
@@ -36,14 +31,16 @@ module _ (text : List ℕ) (m at : ℕ) where
   unfolding run_at
   run_end h = rw (drop_of_length-le text h)
 
+pub ruleset run_steps = (run_step, run_stop, run_end)
+
 -- ---- a number, a word, a field
 
 module _ (text : List ℕ) (at : ℕ) where
-  pub number_none : length text ≤ at → number_at at (drop at text) ≡ Bad
+  pub number_none : length text ≤ at → number_at at (drop at text) ≡ None
   unfolding number_at
   number_none h = rw (drop_of_length-le text h)
 
-  pub number_zero : at < length text → get_or text at 0 ≡ 48 → number_at at (drop at text) ≡ Is 0 (at + 1)
+  pub number_zero : at < length text → get_or text at 0 ≡ 48 → number_at at (drop at text) ≡ Some (record { magnitude = 0; next = at + 1 })
   unfolding number_at
   number_zero h e = rw (drop-cons text at 0 h, eq-eqb (get_or text at 0) 48 e)
 
@@ -51,7 +48,7 @@ module _ (text : List ℕ) (at : ℕ) where
   unfolding number_at
   number_other h e = rw (drop-cons text at 0 h, ne_eqb (get_or text at 0) 48 e)
 
-  pub word_none : length text ≤ at → word_at at (drop at text) ≡ NoWord
+  pub word_none : length text ≤ at → word_at at (drop at text) ≡ None
   unfolding word_at
   word_none h = rw (drop_of_length-le text h)
 
@@ -67,29 +64,25 @@ module _ (text : List ℕ) (at : ℕ) where
   pub number_small : Small (number_at at (drop at text))
   number_small = go (number_at at (drop at text)) (number_sound (drop at text) at)
     where
-      go : (n : Number) → NumberIs (drop at text) at n → Small n
-      go (Is m next) h = h.0
-      go Bad h = tt
+      go : (n : Option Run) → NumberIs (drop at text) at n → Small n
+      go (Some n) h = h.0
+      go None h = tt
 
-  pub word_fits : (v : ℤ) (next : ℕ) → word_at at (drop at text) ≡ IsWord v next → SFits w64 v
-  word_fits v next e = fits_word v (subst (WordIs (drop at text) at) e (word_sound (drop at text) at)).0
+pub ruleset number_steps = (number_none, number_zero, number_other)
 
-  pub field_of : (end : ℕ) (w : Word) → word_at at (drop at text) ≡ w → field_at text at end ≡ closed_word text end w
-  unfolding field_at
-  field_of end w e = ap (closed_word text end) e
+pub ruleset word_steps = (word_none, word_minus, word_other, number_small)
 
-pub field_fits : (text : List ℕ) (at end : ℕ) (v : ℤ) (next : ℕ) → field_at text at end ≡ IsWord v next → SFits w64 v
-field_fits text at end v next e = fits_word v (field_sound text at end v next e).permitted
-
-module _ (text : List ℕ) (end : ℕ) (v : ℤ) (next : ℕ) where
-  pub closed_short : length text ≤ next → closed_word text end (IsWord v next) ≡ NoWord
+module _ (text : List ℕ) (end : ℕ) (w : Field) where
+  pub closed_short : length text ≤ w.next → closed_word text end (Some w) ≡ None
   unfolding closed_word
-  closed_short h = rw (le-ltb next (length text) h)
+  closed_short h = rw (le-ltb w.next (length text) h)
 
-  pub closed_other : next < length text → (get_or text next 0 ≡ end → ⊥) → closed_word text end (IsWord v next) ≡ NoWord
+  pub closed_other : w.next < length text → (get_or text w.next 0 ≡ end → ⊥) → closed_word text end (Some w) ≡ None
   unfolding closed_word
-  closed_other h e = rw (lt-ltb next (length text) h, ne_eqb (get_or text next 0) end e)
+  closed_other h e = rw (lt-ltb w.next (length text) h, ne_eqb (get_or text w.next 0) end e)
 
-pub closed_bad : (text : List ℕ) (end : ℕ) → closed_word text end NoWord ≡ NoWord
+pub closed_bad : (text : List ℕ) (end : ℕ) → closed_word text end None ≡ None
 unfolding closed_word
 closed_bad text end = refl
+
+pub ruleset field_steps = (closed_short, closed_other, closed_complete, closed_bad)

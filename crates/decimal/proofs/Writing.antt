@@ -90,6 +90,8 @@ module _ (m : ℕ) where
         width_in m 9 (omega arith),
       )
 
+pub ruleset width_sums = (width_low, width_middle, width_high)
+
 pub width_small : (m : ℕ) → m ≤ M → length (digits m) ≤ 10
 width_small m h = width_in m 9 (omega arith)
 
@@ -145,6 +147,8 @@ unfolding last_digits
 put_done l at zero n h = refl
 put_done l at (suc j) n h = absurd (omega arith)
 
+pub ruleset last_steps = (last_all, put_more, put_done)
+
 -- ---- a sign, digits and an end
 
 pub sign_minus : (z : ℤ) → lt_z z (pos 0) ≡ true → sign z ≡ 45 ∷ []
@@ -157,9 +161,13 @@ unfolding sign
 sign_none (pos n) e = refl
 sign_none (negsuc n) e = absurd (true≢false e)
 
+pub ruleset sign_cases = (sign_minus, sign_none)
+
 pub length_decimal : (z : ℤ) → length (decimal z) ≡ length (sign z) + length (digits (nat_abs z))
 unfolding decimal
 length_decimal z = length-append (sign z) (digits (nat_abs z))
+
+pub ruleset size_parts = (small, width_small, length_decimal)
 
 length_sign : (z : ℤ) → length (sign z) ≤ 1
 unfolding sign

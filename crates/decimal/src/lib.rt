@@ -3,7 +3,7 @@
 
 ghost use Rattle.std.specs.Prelude.{◌≡◌, true, ◌++◌, ◌∷◌, [], ◌+◌, ◌<◌, ◌≤◌, nat_abs, length, drop};
 ghost use Rattle.std.proofs.lemmas.List.Edits.{sets};
-ghost use Rattle.decimal.specs.Decimal.{M, digits, sign, decimal, has_text, is_digit};
+ghost use Rattle.decimal.specs.Decimal.{M, digits, sign, decimal, has_text};
 ghost use Rattle.decimal.specs.Scan.{goes_on, run_at, bounded_run, number_at, positive_word, negative_word, word_at, field_at, Small};
 ghost use Rattle.decimal.specs.Width.{reached};
 
@@ -17,153 +17,122 @@ pub struct Run {
     pub next: usize,
 }
 
-// A number of at most M with no leading zero, and the place after it.
-#[derive(Clone, Copy)]
-pub enum Number {
-    Is { magnitude: usize, next: usize },
-    Bad,
-}
-
 // A word, and the place after it.
 #[derive(Clone, Copy)]
-pub enum Word {
-    Is { value: i64, next: usize },
-    Bad,
-}
-
-fn wide(b: u8) -> usize
-    ensures { result ≡ b }
-{
-    b as usize
-}
-
-fn is_digit(b: u8) -> bool
-    ensures { result ≡ is_digit b }
-{
-    (48 <= b) & (b <= 57)
+pub struct Field {
+    pub value: i64,
+    pub next: usize,
 }
 
 // Past M a number is bad whatever follows, so that no further digit is read.
 fn goes_on(magnitude: usize, b: u8) -> bool
     ensures { result ≡ goes_on magnitude b }
 {
-    is_digit(b) & (magnitude <= LARGEST)
+    b.is_ascii_digit() & (magnitude <= LARGEST)
 }
 
 // The digits from `at` on, as one number.
+#[tactic(auto, using(crate::proofs::Steps::run_steps))]
 fn run_at(text: &[u8], at: usize) -> Run
     ensures { result ≡ run_at 0 at (drop at text.now) }
 {
     let mut magnitude = 0;
-    let mut next = at;
-    while next < text.len() {
+    for next in at..text.len() {
         let b = text[next];
         if !goes_on(magnitude, b) {
             return Run { magnitude, next };
         }
-        magnitude = magnitude * 10 + (wide(b) - 48);
-        next += 1;
+        magnitude = magnitude * 10 + usize::from(b - b'0');
     }
-    Run { magnitude, next }
+    Run {
+        magnitude,
+        next: at.max(text.len()),
+    }
 }
 
-// A run that starts with no zero is 0 only where it has no digit.
-fn bounded(run: Run) -> Number
+// A number is at most M. A run that starts with no zero is 0 only where it has no digit.
+#[tactic(auto, unfolding(crate::specs::Scan::bounded_run))]
+fn bounded(run: Run) -> Option<Run>
     ensures { result ≡ bounded_run run }
 {
     if (run.magnitude == 0) | (LARGEST < run.magnitude) {
-        return Number::Bad;
+        return None;
     }
-    Number::Is {
-        magnitude: run.magnitude,
-        next: run.next,
-    }
+    Some(run)
 }
 
 // A zero is a number by itself. A digit after it is no end of a field, so that a leading zero is refused.
-fn number_at(text: &[u8], at: usize) -> Number
+#[tactic(auto, using(crate::proofs::Steps::number_steps))]
+fn number_at(text: &[u8], at: usize) -> Option<Run>
     ensures { result ≡ number_at at (drop at text.now) }
 {
-    if text.len() <= at {
-        return Number::Bad;
-    }
-    if text[at] == b'0' {
-        return Number::Is {
+    let first = *text.get(at)?;
+    if first == b'0' {
+        return Some(Run {
             magnitude: 0,
             next: at + 1,
-        };
+        });
     }
     bounded(run_at(text, at))
 }
 
-fn positive(n: Number) -> Word
-    requires { Small n }
-    ensures { result ≡ positive_word n }
+#[tactic(auto, unfolding(crate::specs::Scan::positive_word))]
+fn positive(n: Run) -> Field
+    requires { Small (Some n) }
+    ensures { Some result ≡ positive_word (Some n) }
 {
-    match n {
-        Number::Is { magnitude, next } => Word::Is {
-            value: magnitude as i64,
-            next,
-        },
-        Number::Bad => Word::Bad,
+    Field {
+        value: n.magnitude as i64,
+        next: n.next,
     }
 }
 
 // There is no "-0".
-fn negative(n: Number) -> Word
-    requires { Small n }
-    ensures { result ≡ negative_word n }
+#[tactic(auto, unfolding(crate::specs::Scan::negative_word))]
+fn negative(n: Run) -> Option<Field>
+    requires { Small (Some n) }
+    ensures { result ≡ negative_word (Some n) }
 {
-    match n {
-        Number::Is { magnitude, next } => {
-            if magnitude == 0 {
-                return Word::Bad;
-            }
-            Word::Is {
-                value: -(magnitude as i64),
-                next,
-            }
-        }
-        Number::Bad => Word::Bad,
+    if n.magnitude == 0 {
+        return None;
     }
+    Some(Field {
+        value: -(n.magnitude as i64),
+        next: n.next,
+    })
 }
 
 // A number, or a minus and a number.
-fn word_at(text: &[u8], at: usize) -> Word
+#[tactic(auto, using(crate::proofs::Steps::word_steps), unfolding(crate::specs::Scan::positive_word, crate::specs::Scan::negative_word))]
+fn word_at(text: &[u8], at: usize) -> Option<Field>
     ensures { result ≡ word_at at (drop at text.now) }
 {
-    if text.len() <= at {
-        return Word::Bad;
-    }
-    if text[at] == b'-' {
-        negative(number_at(text, at + 1))
+    let first = *text.get(at)?;
+    if first == b'-' {
+        negative(number_at(text, at + 1)?)
     } else {
-        positive(number_at(text, at))
+        Some(positive(number_at(text, at)?))
     }
 }
 
 // A word with the byte that ends it.
-pub fn field_at(text: &[u8], at: usize, end: u8) -> Word
+#[tactic(auto, using(crate::proofs::Steps::field_steps), unfolding(crate::specs::Scan::field_at))]
+pub fn field_at(text: &[u8], at: usize, end: u8) -> Option<Field>
     ensures { result ≡ field_at text.now at end }
 {
-    match word_at(text, at) {
-        Word::Is { value, next } => {
-            if text.len() <= next {
-                return Word::Bad;
-            }
-            if text[next] != end {
-                return Word::Bad;
-            }
-            Word::Is {
-                value,
-                next: next + 1,
-            }
-        }
-        Word::Bad => Word::Bad,
+    let word = word_at(text, at)?;
+    let last = *text.get(word.next)?;
+    if last != end {
+        return None;
     }
+    Some(Field {
+        value: word.value,
+        next: word.next + 1,
+    })
 }
 
 // Whether a word is within −M..M.
+#[tactic(auto, using(crate::proofs::Signed::bounds))]
 pub fn has_text(w: i64) -> bool
     ensures { result ≡ has_text w }
 {
@@ -172,23 +141,20 @@ pub fn has_text(w: i64) -> bool
 
 // A word without its sign.
 fn magnitude(w: i64) -> usize
-    requires { has_text w ≡ true }
     ensures { result ≡ nat_abs w }
 {
-    if w < 0 {
-        return (-w) as usize;
-    }
-    w as usize
+    w.unsigned_abs() as usize
 }
 
 // 1 where a number has reached `least`, else 0.
 fn reaches(m: usize, least: usize) -> usize
     ensures { (result ≡ reached m least) × (result ≤ 1) }
 {
-    (least <= m) as usize
+    usize::from(least <= m)
 }
 
 // How many digits a number has. Sums of comparisons take no branch, and no division.
+#[tactic(auto, using(crate::proofs::Writing::width_sums))]
 fn width(m: usize) -> usize
     requires { m ≤ M }
     ensures { result ≡ length (digits m) }
@@ -203,6 +169,7 @@ fn width(m: usize) -> usize
 }
 
 // How many bytes a word's decimal has.
+#[tactic(auto, using(crate::proofs::Writing::size_parts, crate::proofs::Writing::sign_cases))]
 pub fn size(w: i64) -> usize
     requires { has_text w ≡ true }
     ensures { result ≡ length (decimal w) }
@@ -215,26 +182,26 @@ pub fn size(w: i64) -> usize
 }
 
 // The last `n` digits of `m`, the last one first: each is the remainder by ten.
+#[tactic(auto, using(crate::proofs::Writing::last_steps))]
 fn put_last(text: &mut [u8], at: usize, n: usize, m: usize)
     requires { (n ≡ length (digits m)) × (at + n ≤ length text.old) }
     ensures { text.new ≡ sets text.old at (digits m) }
 {
     let mut left = m;
-    let mut j = n;
-    while 0 < j {
-        j -= 1;
-        text[at + j] = (48 + left % 10) as u8;
+    for j in (0..n).rev() {
+        text[at + j] = b'0' + (left % 10) as u8;
         left /= 10;
     }
 }
 
 // A number's digits. The answer is the place after them. Most of a sheet's numbers have one digit.
+#[tactic(auto, using(crate::proofs::Digits::digits_one))]
 fn put_digits(text: &mut [u8], at: usize, m: usize) -> usize
     requires { (m ≤ M) × (at + length (digits m) ≤ length text.old) }
     ensures { (result ≡ at + length (digits m)) × (text.new ≡ sets text.old at (digits m)) }
 {
     if m < 10 {
-        text[at] = (48 + m) as u8;
+        text[at] = b'0' + m as u8;
         return at + 1;
     }
     let n = width(m);
@@ -243,6 +210,7 @@ fn put_digits(text: &mut [u8], at: usize, m: usize) -> usize
 }
 
 // A word's minus, where it has one. The answer is the place after it.
+#[tactic(auto, using(crate::proofs::Writing::sign_cases))]
 fn put_sign(text: &mut [u8], at: usize, w: i64) -> usize
     requires { at + length (sign w) ≤ length text.old }
     ensures { (result ≡ at + length (sign w)) × (text.new ≡ sets text.old at (sign w)) }
@@ -255,6 +223,7 @@ fn put_sign(text: &mut [u8], at: usize, w: i64) -> usize
 }
 
 // A word's decimal and the byte that ends it. The answer is the place after them.
+#[tactic(auto, using(crate::proofs::Writing::size_parts, crate::proofs::Writing::put_all))]
 pub fn put_field(text: &mut [u8], at: usize, w: i64, end: u8) -> usize
     requires { (has_text w ≡ true) × (at + length (decimal w) < length text.old) }
     ensures { (result ≡ at + length (decimal w) + 1) × (text.new ≡ sets text.old at (decimal w ++ (end ∷ []))) }

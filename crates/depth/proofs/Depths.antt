@@ -3,7 +3,7 @@
 use mathlib.Core.Path.{◌≡◌, refl, sym, ap, ◌∙◌}
 use mathlib.Core.Bool.{true, false}
 use mathlib.Core.List.{List, [], ◌∷◌, ◌++◌, map, Memᴰ}
-use mathlib.Core.Logic.{◌⊎◌, ⊎_elim}
+use mathlib.Core.Logic.{⊎_elim}
 use Prim.Native.Nat.{ℕ, zero, suc, ◌+◌, ◌-◌, ◌≤◌, ◌<◌, max}
 use native.Mathlib.Numerals.{add-one}
 use native.Mathlib.Omega.{arith}
@@ -98,12 +98,11 @@ pub scan_none : (f : ℕ → ℕ) (first many : ℕ) → Scanning f first (first
 scan_none f first many = record { high = omega arith; is = omega arith }
 
 module _ {f : ℕ → ℕ} {first end r most : ℕ} (k : Scanning f first end r most) where
-  pub scan_more : r < end → {v m : ℕ} → v ≡ f r → ((most < v) × (m ≡ v)) ⊎ ((v ≤ most) × (m ≡ most)) → Scanning f first end (r + 1) m
+  pub scan_more : r < end → {v m : ℕ} → v ≡ f r → m ≡ max most v → Scanning f first end (r + 1) m
   unfolding max_from
   scan_more l {v} {m} e o =
       let z : end - r ≡ suc (end - suc r) = omega arith in
       let y : max most (max (f r) (max_from f (suc r) (end - suc r))) ≡ max_from f first (end - first) = rw z at k.is in
-      let x : m ≡ max most (f r) = ⊎_elim (λ (p : (most < v) × (m ≡ v)). omega arith) (λ (p : (v ≤ most) × (m ≡ most)). omega arith) o in
       record { high = omega arith; is = rw add-one (omega arith) }
 
   scan_done : end ≤ r → most ≡ max_from f first (end - first)

@@ -1,5 +1,6 @@
 -- What stands once the ladder is climbed, and that the three calls' answers fit a signed word.
 -- Assumes nothing.
+use Rattle.std.specs.Prelude.{Option, Ok, Err}
 use mathlib.Core.Path.{◌≡◌, refl}
 use mathlib.Core.Bool.{Bool, true, ◌&&◌}
 use mathlib.Core.List.{List}
@@ -11,21 +12,18 @@ use Rattle.tables.proofs.Bools.{and_left, and_right}
 use Rattle.signed.specs.Words.{num}
 use Rattle.answer.specs.Number.{number}
 use Rattle.answer.specs.declared.Refusal.{Refusal}
-use Rattle.answer.specs.declared.Status.TheVariants.{Done, Refused}
-use Rattle.answer.specs.declared.Count.TheVariants.{Refused as NoCount}
 use Rattle.answer.specs.Inner.{Every, SmallStatus, SmallCount}
 use Rattle.layout.specs.declared.Header.{Header}
 use Rattle.node.specs.FactValues.{FactValue}
 use Rattle.facts.specs.Lent.{LentFacts}
 use Rattle.facts.specs.Faults.{facts_fault}
 use Rattle.facts.specs.Assembled.{assembled}
-use Rattle.facts.specs.Inner.{FactsIn, LengthsIn}
+use Rattle.facts.specs.Inner.{AllLent, FactsIn, LengthsIn}
 use Rattle.facts.proofs.FaultLaws.{facts_in, lengths_in, fault_every}
 use Rattle.predicate.specs.Verdicts.{verdicts_of}
 use Rattle.predicate.proofs.VerdictLaws.{verdicts_true}
 use Rattle.records.specs.Accepted.{Accepted}
 use Rattle.records.specs.Operations.{outcomes}
-use Rattle.operation.specs.declared.Wanted.{Wanted}
 use Rattle.operation.specs.Outcomes.{wanted_of, good_wanted}
 use Rattle.instances.specs.Records.{LentStates, states_lent, records_fault}
 use Rattle.instances.specs.Named.{gathered, has, covers}
@@ -34,9 +32,7 @@ use Rattle.instances.proofs.Gathering.{states_in_lem}
 use Rattle.instances.proofs.Lengths.{lent_whole}
 use Rattle.attempt.specs.Inner.{Attemptable}
 use Rattle.attempt.proofs.AttemptLaws.{attempt_small, refused_states}
-use Rattle.ladder.specs.declared.Climbed.{Climbed}
-use Rattle.ladder.specs.declared.Climbed.TheVariants.{At, Stopped}
-use Rattle.ladder.specs.Ladder.{opened, exists, facts_lent}
+use Rattle.ladder.specs.Ladder.{Climbed, opened, exists, facts_lent}
 use Rattle.ladder.proofs.ClimbLaws.{Past, passed, climbed_at, climbed_sheet, opened_at}
 use Rattle.ladder.proofs.LentLaws.{all_lent}
 use Rattle.ladder.proofs.Small.{Early, checked_early, early_small, rungs_every, climb_every, rungs_small, call_small}
@@ -66,8 +62,8 @@ attemptable {s} {h} {t} a e v =
     }
 
 -- a refused attempt leaves the states as they were
-pub over_refused : (s : List ℤ) (h : Header) (t : LentFacts) (states : List ℤ) (p o : ℕ) (w : Wanted) {r : Refusal}
-    → attempted_over s h t states p o w ≡ NoCount r → attempted_states_over s h t states p o w ≡ states
+pub over_refused : (s : List ℤ) (h : Header) (t : LentFacts) (states : List ℤ) (p o : ℕ) (w : Option ℕ) {r : Refusal}
+    → attempted_over s h t states p o w ≡ Err r → attempted_states_over s h t states p o w ≡ states
 over_refused s h t states p o w {r} e = refused_states s h _ _ states p o w r e
 
 -- where an operation may want the outcome, there is such an operation
@@ -76,8 +72,21 @@ unfolding wanted_exists
 operation_exists s h o v p =
     ltb-true _ _ (and_left (exists o h.operations) (good_wanted (outcomes s h (num o)) (wanted_of v)) p)
 
+-- past every rung an operation has what it asks
+pub asked_past : (s : List ℤ) (t : LentFacts) (q : LentStates) (p o v : ℤ) {h : Header} → Accepted s h → AllLent s h t
+    → facts_fault s h t ≡ Ok tt → records_fault s h q.records ≡ Ok tt
+    → (exists p h.personas && wanted_exists s h o v && covers s h (has q) (num o)) ≡ true → LentOperation s h t (gathered h q) (num p) (num o)
+asked_past s t q p o v {h} a l f r n =
+    let named = and_left (exists p h.personas && wanted_exists s h o v) (covers s h (has q) (num o)) n in
+    record {
+      known = record { sheet = a; all = l; faultless = f };
+      lent = states_in_lem s h q a r;
+      persona = ltb-true _ _ (and_left (exists p h.personas) (wanted_exists s h o v) named);
+      operation = operation_exists s h o v (and_right (exists p h.personas) (wanted_exists s h o v) named);
+    }
+
 -- what an operation asks, where nothing is refused
-module _ (s : List ℤ) (t : LentFacts) (q : LentStates) (p o v : ℤ) {h : Header} {x : Climbed} (e : x ≡ operate_climb s t q p o v) (a : x ≡ At h) where
+module _ (s : List ℤ) (t : LentFacts) (q : LentStates) (p o v : ℤ) {h : Header} {x : Climbed} (e : x ≡ operate_climb s t q p o v) (a : x ≡ Ok h) where
   abbrev way : Past (opened s) (operate_rungs s t q p o v) h
   way = climbed_at (opened s) (operate_rungs s t q p o v) e a
 
@@ -85,7 +94,7 @@ module _ (s : List ℤ) (t : LentFacts) (q : LentStates) (p o v : ℤ) {h : Head
   sheet = climbed_sheet s (operate_rungs s t q p o v) e a
 
   -- no record is at fault
-  pub asked_records : records_fault s h q.records ≡ Done
+  pub asked_records : records_fault s h q.records ≡ Ok tt
   unfolding operate_rungs
   asked_records = (passed way.clear).states
 
@@ -109,13 +118,7 @@ module _ (s : List ℤ) (t : LentFacts) (q : LentStates) (p o v : ℤ) {h : Head
 
   pub asked : LentOperation s h t (gathered h q) (num p) (num o)
   unfolding operate_rungs
-  asked =
-      record {
-        known = record { sheet = sheet; all = all_lent asked_lengths.0; faultless = (passed way.clear).facts };
-        lent = states_in_lem s h q sheet asked_records;
-        persona = ltb-true _ _ (and_left (exists p h.personas) (wanted_exists s h o v) (and_left numbers (covers s h (has q) (num o)) named));
-        operation = operation_exists s h o v asked_operation;
-      }
+  asked = asked_past s t q p o v sheet (all_lent asked_lengths.0) (passed way.clear).facts asked_records named
 
   -- and that the operation may want the outcome
   pub asked_wanted : good_wanted (outcomes s h (num o)) (wanted_of v) ≡ true
@@ -125,7 +128,7 @@ module _ (s : List ℤ) (t : LentFacts) (q : LentStates) (p o v : ℤ) {h : Head
 -- ---- answers fit a signed word
 
 module _ (s : List ℤ) (t : LentFacts) where
-  pub facts_early : (h : Header) → opened s ≡ At h → Every Early (facts_fault s h t)
+  pub facts_early : (h : Header) → opened s ≡ Ok h → Every Early (facts_fault s h t)
   facts_early h e =
       let few = (opened_at s refl e).sheet.sized.limits.facts in
       fault_every s h t Early
@@ -136,7 +139,7 @@ module _ (s : List ℤ) (t : LentFacts) where
       let few = (lent_whole h q e).few in
       bad_every s h q.records Early (λ n l. record { number = omega arith; place = omega arith })
 
-  pub facts_small : (h : Header) → opened s ≡ At h → SmallStatus (facts_fault s h t)
+  pub facts_small : (h : Header) → opened s ≡ Ok h → SmallStatus (facts_fault s h t)
   facts_small h e = early_small (facts_fault s h t) (facts_early h e)
 
   pub states_small : (q : LentStates) (h : Header) → states_lent h q ≡ true → SmallStatus (records_fault s h q.records)
@@ -145,24 +148,24 @@ module _ (s : List ℤ) (t : LentFacts) where
   pub assemble_small : SmallStatus (assemble_answer s t)
   unfolding assemble_rungs
   assemble_small =
-      call_small SmallStatus Refused (λ _. Done) (λ r p. p) s (assemble_rungs s t) (λ h e. rungs_small _ _ _ _ (facts_small h e) (λ _. tt))
+      call_small SmallStatus Err (λ _. Ok tt) (λ r p. p) s (assemble_rungs s t) (λ h e. rungs_small _ _ _ _ (facts_small h e) (λ _. tt))
       (λ h e. tt)
 
   pub verdicts_small : (room : ℕ) → SmallStatus (verdicts_answer s t room)
   unfolding verdicts_rungs
   verdicts_small room =
-      call_small SmallStatus Refused (λ _. Done) (λ r p. p) s (verdicts_rungs s t room) (λ h e. rungs_small _ _ _ _ (facts_small h e) (λ _. tt))
+      call_small SmallStatus Err (λ _. Ok tt) (λ r p. p) s (verdicts_rungs s t room) (λ h e. rungs_small _ _ _ _ (facts_small h e) (λ _. tt))
       (λ h e. tt)
 
   pub operate_small : (q : LentStates) (p o v : ℤ) → SmallCount (operate_answer s t q p o v)
   unfolding operate_rungs
   operate_small q p o v =
-      call_small SmallCount NoCount _ (λ r p. p) s (operate_rungs s t q p o v)
+      call_small SmallCount Err _ (λ r p. p) s (operate_rungs s t q p o v)
       (λ h e. rungs_small _ _ _ _ (facts_small h e) (λ l. states_small q h (and_right (facts_lent s h t) (states_lent h q) l)))
       (λ h e. attempt_small (attemptable (asked s t q p o v refl e) refl refl) (wanted_of v))
 
 -- an operation call that stops on the ladder is refused 1 to 8
-pub operate_early : (s : List ℤ) (t : LentFacts) (q : LentStates) (p o v : ℤ) {r : Refusal} → operate_climb s t q p o v ≡ Stopped r
+pub operate_early : (s : List ℤ) (t : LentFacts) (q : LentStates) (p o v : ℤ) {r : Refusal} → operate_climb s t q p o v ≡ Err r
     → number r ≤ 8
 unfolding operate_rungs
 operate_early s t q p o v {r} e =

@@ -1,5 +1,6 @@
 -- A fact's fault by its cases, and what facts without a fault give: every assembled fact is in range.
 -- Assumes nothing.
+use Rattle.std.specs.Prelude.{Ok, Err}
 use mathlib.Core.Path.{◌≡◌, sym, ◌∙◌}
 use mathlib.Core.Bool.{true, false, ◌&&◌}
 use mathlib.Core.List.{List}
@@ -19,7 +20,6 @@ use Rattle.signed.proofs.Bounds.{true_in}
 use Rattle.words.specs.Record.{word, number}
 use Rattle.answer.specs.declared.Refusal.{Refusal}
 use Rattle.answer.specs.declared.Refusal.TheVariants.{FactValue, FactAbsent}
-use Rattle.answer.specs.declared.Status.TheVariants.{Done, Refused}
 use Rattle.answer.specs.Inner.{Every}
 use Rattle.layout.specs.declared.Header.{Header}
 use Rattle.node.specs.FactValues.{Single, Listed, no_value}
@@ -49,19 +49,19 @@ module _ (s : List ℤ) (t : LentFacts) (k : ℕ) where
   abbrev value : ℤ
   value = get_or t.values k (pos 0)
 
-  pub defaulted : eq_z flag (pos 0) ≡ true → has_default s k ≡ true → fact_fault s t k ≡ Done
+  pub defaulted : eq_z flag (pos 0) ≡ true → has_default s k ≡ true → fact_fault s t k ≡ Ok tt
   unfolding fact_fault
   defaulted p q = rw (p, q, fact_fault)
 
-  pub absent : eq_z flag (pos 0) ≡ true → has_default s k ≡ false → fact_fault s t k ≡ Refused (FactAbsent k)
+  pub absent : eq_z flag (pos 0) ≡ true → has_default s k ≡ false → fact_fault s t k ≡ Err (FactAbsent k)
   unfolding fact_fault
   absent p q = rw (p, q, fact_fault)
 
-  pub fair : eq_z flag (pos 0) ≡ false → (eq_z flag (pos 1) && good_lent s t k) ≡ true → fact_fault s t k ≡ Done
+  pub fair : eq_z flag (pos 0) ≡ false → (eq_z flag (pos 1) && good_lent s t k) ≡ true → fact_fault s t k ≡ Ok tt
   unfolding fact_fault
   fair p q = rw (p, q, fact_fault)
 
-  pub unfair : eq_z flag (pos 0) ≡ false → (eq_z flag (pos 1) && good_lent s t k) ≡ false → fact_fault s t k ≡ Refused (FactValue k)
+  pub unfair : eq_z flag (pos 0) ≡ false → (eq_z flag (pos 1) && good_lent s t k) ≡ false → fact_fault s t k ≡ Err (FactValue k)
   unfolding fact_fault
   unfair p q = rw (p, q, fact_fault)
 
@@ -90,7 +90,7 @@ module _ (s : List ℤ) (t : LentFacts) (k : ℕ) where
   taken_single e = rw e
 
   -- without a fault a given fact is good, and one that is not given has a default
-  module _ (e : fact_fault s t k ≡ Done) where
+  module _ (e : fact_fault s t k ≡ Ok tt) where
     given_good : eq_z flag (pos 0) ≡ false → good_lent s t k ≡ true
     given_good p =
         ⊎_elim (λ q. and_right (eq_z flag (pos 1)) (good_lent s t k) q) (λ q. absurd (refused_done (sym (unfair p q) ∙ e)))
@@ -165,12 +165,12 @@ module _ (s : List ℤ) (h : Header) (t : LentFacts) where
   unfolding assembled
   length_facts = length_grown (λ _ j. fact_taken s t j) no_value h.facts
 
-  none_faulty : facts_fault s h t ≡ Done → (k : ℕ) → k < h.facts → fact_fault s t k ≡ Done
+  none_faulty : facts_fault s h t ≡ Ok tt → (k : ℕ) → k < h.facts → fact_fault s t k ≡ Ok tt
   unfolding facts_fault
   none_faulty e k l = none_refused (fact_fault s t) h.facts e k l
 
   -- facts without a fault are assembled to facts in range
-  pub facts_in : Accepted s h → facts_fault s h t ≡ Done → FactsIn s h (assembled s h t)
+  pub facts_in : Accepted s h → facts_fault s h t ≡ Ok tt → FactsIn s h (assembled s h t)
   facts_in a e = record { long = length_facts; each = λ k l. rw (fact_at k l) (taken_in s t k (none_faulty e k l) h a l) }
 
   length_few : (k : ℕ) → good_list s t k ≡ true → num (largest_of s k) ≤ 100 → num (length_lent s t k) ≤ 100
@@ -178,7 +178,7 @@ module _ (s : List ℤ) (h : Header) (t : LentFacts) where
   length_few k p l = let q = simp tests at p in omega arith
 
   -- and their lists are no longer than they may be
-  pub lengths_in : Accepted s h → AllLent s h t → facts_fault s h t ≡ Done → LengthsIn s h t.lengths
+  pub lengths_in : Accepted s h → AllLent s h t → facts_fault s h t ≡ Ok tt → LengthsIn s h t.lengths
   lengths_in a n e =
       record {
         long = n.lengths;

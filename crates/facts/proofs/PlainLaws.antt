@@ -1,5 +1,6 @@
 -- A sheet without lists: facts are judged and assembled as 01 says, and there are no slots and no lengths to lend.
 -- Assumes nothing.
+use Rattle.std.specs.Prelude.{Ok, Err}
 use mathlib.Core.Path.{◌≡◌, sym, ap, ◌∙◌}
 use mathlib.Core.Bool.{Bool, true, false, ◌&&◌}
 use mathlib.Core.List.{List}
@@ -11,7 +12,6 @@ use Rattle.tables.specs.Scan.{sum_below}
 use Rattle.tables.proofs.Scans.{sum_zero, sum_suc}
 use Rattle.signed.specs.Words.{eq_z}
 use Rattle.answer.specs.declared.Refusal.TheVariants.{FactValue, FactAbsent}
-use Rattle.answer.specs.declared.Status.TheVariants.{Done, Refused}
 use Rattle.layout.specs.declared.Header.{Header}
 use Rattle.node.specs.FactValues.{Single, no_value}
 use Rattle.records.specs.Facts.{is_list}
@@ -40,8 +40,8 @@ module _ (s : List ℤ) (h : Header) (t : LentFacts) (none : (k : ℕ) → k < h
   plain_fault_lem k e =
       let g = get_or t.given k (pos 0) in
       ap (λ (b : Bool). elim (eq_z g (pos 0)) [
-        | true ↦ elim (has_default s k) [ true ↦ Done | false ↦ Refused (FactAbsent k) ]
-        | false ↦ elim (eq_z g (pos 1) && b) [ true ↦ Done | false ↦ Refused (FactValue k) ]
+        | true ↦ elim (has_default s k) [ true ↦ Ok tt | false ↦ Err (FactAbsent k) ]
+        | false ↦ elim (eq_z g (pos 1) && b) [ true ↦ Ok tt | false ↦ Err (FactValue k) ]
       ]) (lent_value s t k e)
 
   -- the first faulty fact decides

@@ -1,12 +1,11 @@
 -- 01, refusals 6 and 7, and 02, CR 6: judged fact by fact, the first faulty fact decides.
 -- Assumes nothing.
-use Rattle.std.specs.Prelude.{ℕ, zero, suc, ℤ, pos, Bool, true, false, cond, ◌&&◌, List, get_or, leb, eqb}
+use Rattle.std.specs.Prelude.{ℕ, zero, suc, ℤ, pos, Bool, true, false, cond, ◌&&◌, List, get_or, leb, eqb, Ok, Err}
 use Rattle.tables.specs.Lists.{all_of}
 use Rattle.signed.specs.Words.{eq_z, within, num}
 use Rattle.words.specs.Record.{word, number}
 use Rattle.answer.specs.declared.Refusal.TheVariants.{FactValue, FactAbsent}
-use Rattle.answer.specs.declared.Status.{Status}
-use Rattle.answer.specs.declared.Status.TheVariants.{Done, Refused}
+use Rattle.answer.specs.Answers.{Status}
 use Rattle.layout.specs.declared.Header.{Header}
 use Rattle.records.specs.Facts.{is_list, largest_of}
 use Rattle.facts.specs.Lent.{LentFacts, length_lent, elements_lent}
@@ -32,14 +31,14 @@ unfoldable pub fact_fault : List ℤ → LentFacts → ℕ → Status
 fact_fault s t k =
     let g = get_or t.given k (pos 0) in
     elim (eq_z g (pos 0)) [
-      | true ↦ elim (has_default s k) [ true ↦ Done | false ↦ Refused (FactAbsent k) ]
-      | false ↦ elim (eq_z g (pos 1) && good_lent s t k) [ true ↦ Done | false ↦ Refused (FactValue k) ]
+      | true ↦ elim (has_default s k) [ true ↦ Ok tt | false ↦ Err (FactAbsent k) ]
+      | false ↦ elim (eq_z g (pos 1) && good_lent s t k) [ true ↦ Ok tt | false ↦ Err (FactValue k) ]
     ]
 
 -- the first refusal among the n numbers from i on
 unfoldable pub first_refused : (ℕ → Status) → ℕ → ℕ → Status
-first_refused f i zero = Done
-first_refused f i (suc n) = elim (f i) [ Done ↦ first_refused f (suc i) n | Refused r ↦ Refused r ]
+first_refused f i zero = Ok tt
+first_refused f i (suc n) = elim (f i) [ Ok _ ↦ first_refused f (suc i) n | Err r ↦ Err r ]
 
 -- the fault of the lent facts
 unfoldable pub facts_fault : List ℤ → Header → LentFacts → Status

@@ -1,12 +1,11 @@
 -- What the inner functions ask and answer, and what proofs speak of. The definitions of the other files do not rest on these.
 -- Assumes nothing.
-use Rattle.std.specs.Prelude.{◌≡◌, ℕ, ◌+◌, ◌*◌, ◌≤◌, ◌<◌, ◌/◌, ◌%◌, ℤ, pos, Bool, true, false, cond, ◌&&◌, List, leb, length, get_or}
+use Rattle.std.specs.Prelude.{◌≡◌, ℕ, ◌+◌, ◌*◌, ◌≤◌, ◌<◌, ◌/◌, ◌%◌, ℤ, pos, Bool, true, false, cond, ◌&&◌, List, leb, length, get_or, Ok, Err}
 use Rattle.tables.specs.Table.{grown}
 use Rattle.tables.specs.Lists.{all_of, words_from}
 use Rattle.signed.specs.Words.{eq_z, num}
 use Rattle.answer.specs.declared.Refusal.TheVariants.{FactValue as OutOfRange, FactAbsent}
-use Rattle.answer.specs.declared.Status.{Status}
-use Rattle.answer.specs.declared.Status.TheVariants.{Done, Refused}
+use Rattle.answer.specs.Answers.{Status}
 use Rattle.layout.specs.declared.Header.{Header}
 use Rattle.node.specs.FactValues.{FactValue, Single, Listed, no_value, value_in, elements_in}
 use Rattle.records.specs.Facts.{is_list, largest_of}
@@ -31,8 +30,8 @@ pub record FactsIn (s : List ℤ) (h : Header) (facts : List FactValue) : Type 0
 unfoldable pub plain_fault : List ℤ → ℕ → ℤ → ℤ → Status
 plain_fault s k x g =
     elim (eq_z g (pos 0)) [
-      | true ↦ elim (has_default s k) [ true ↦ Done | false ↦ Refused (FactAbsent k) ]
-      | false ↦ elim (eq_z g (pos 1) && in_fact s k x) [ true ↦ Done | false ↦ Refused (OutOfRange k) ]
+      | true ↦ elim (has_default s k) [ true ↦ Ok tt | false ↦ Err (FactAbsent k) ]
+      | false ↦ elim (eq_z g (pos 1) && in_fact s k x) [ true ↦ Ok tt | false ↦ Err (OutOfRange k) ]
     ]
 
 -- ---- facts as the code holds them: a word for each, of a list one that says where its elements start in the lent slice and how many there are

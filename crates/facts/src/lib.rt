@@ -12,9 +12,9 @@ ghost use Rattle.facts.specs.Faults.{in_fact, good_lent, fact_fault, facts_fault
 ghost use Rattle.facts.specs.Assembled.{value_taken, assembled_values, assembled};
 ghost use Rattle.facts.specs.Inner.{held, held_word, UsedBefore, AtFact, AllLent, LentAt, LengthsIn};
 
-use answer::{Refusal, Status};
-use layout::{Header, place};
-use records::is_list;
+use answer::Refusal;
+use layout::place;
+use records::{Contract, is_list};
 use signed::{num, same, to_word, within};
 use words::{number, word};
 
@@ -26,6 +26,12 @@ pub struct Used {
 }
 
 impl Used {
+    // Before the first fact.
+    const NONE: Used = Used {
+        slots: 0,
+        lengths: 0,
+    };
+
     // With fact k.
     fn more(self, s: &[i64], k: usize) -> Used
         requires { AtFact s.now k self }
@@ -44,17 +50,13 @@ impl Used {
 }
 
 // What all facts use: the lent lists have so many slots, and there are so many lengths.
-pub fn used_by_all(s: &[i64], h: Header) -> Used
-    requires { Accepted s.now h }
-    ensures { UsedBefore s.now h.facts result }
+pub fn used_by_all(s: &Contract) -> Used
+    ensures { UsedBefore s.now.sheet.words.now s.now.sheet.header.facts result }
 {
-    let n = h.facts;
-    let mut used = Used {
-        slots: 0,
-        lengths: 0,
-    };
+    let n = s.sheet.header.facts;
+    let mut used = Used::NONE;
     for k in 0..n {
-        used = used.more(s, k);
+        used = used.more(s.sheet.words, k);
     }
     used
 }
@@ -86,11 +88,7 @@ fn good_list(s: &[i64], k: usize, lists: &[i64], start: usize, count: usize) -> 
     ensures { result ≡ (leb count (number_of s.now k 7) && all_of (in_fact s.now k) (words_from lists.now start count)) }
 {
     let largest = number(s, k, place::FACT_LARGEST);
-    if count <= largest {
-        all_in_fact(s, k, lists, start, count)
-    } else {
-        false
-    }
+    count <= largest && all_in_fact(s, k, lists, start, count)
 }
 
 // Whether the flag says given, and what is lent of the fact is in range.
@@ -124,48 +122,41 @@ fn fact_fault(
     lists: &[i64],
     lengths: &[i64],
     used: Used,
-) -> Status
+) -> Result<(), Refusal>
     requires { AtFact s.now k used × LentAt s.now k (lent values.now given.now lists.now lengths.now) }
     ensures { result ≡ fact_fault s.now (lent values.now given.now lists.now lengths.now) k }
 {
     if same(given[k], 0) {
         if number(s, k, place::FACT_HAS_DEFAULT) == 1 {
-            Status::Done
+            Ok(())
         } else {
-            Status::Refused(Refusal::FactAbsent(k))
+            Err(Refusal::FactAbsent(k))
         }
     } else if given_in_range(s, k, values, given, lists, lengths, used) {
-        Status::Done
+        Ok(())
     } else {
-        Status::Refused(Refusal::FactValue(k))
+        Err(Refusal::FactValue(k))
     }
 }
 
 // Refusals 6 and 7: the first faulty fact decides.
 pub fn judge_facts(
-    s: &[i64],
-    h: Header,
+    s: &Contract,
     values: &[i64],
     given: &[i64],
     lists: &[i64],
     lengths: &[i64],
-) -> Status
-    requires { Accepted s.now h × AllLent s.now h (lent values.now given.now lists.now lengths.now) }
-    ensures { result ≡ facts_fault s.now h (lent values.now given.now lists.now lengths.now) }
+) -> Result<(), Refusal>
+    requires { AllLent s.now.sheet.words.now s.now.sheet.header (lent values.now given.now lists.now lengths.now) }
+    ensures { result ≡ facts_fault s.now.sheet.words.now s.now.sheet.header (lent values.now given.now lists.now lengths.now) }
 {
-    let facts = h.facts;
-    let mut used = Used {
-        slots: 0,
-        lengths: 0,
-    };
+    let facts = s.sheet.header.facts;
+    let mut used = Used::NONE;
     for k in 0..facts {
-        let fault = fact_fault(s, k, values, given, lists, lengths, used);
-        if let Status::Refused(r) = fault {
-            return Status::Refused(r);
-        }
-        used = used.more(s, k);
+        fact_fault(s.sheet.words, k, values, given, lists, lengths, used)?;
+        used = used.more(s.sheet.words, k);
     }
-    Status::Done
+    Ok(())
 }
 
 // The value of fact k, lent as x with the given flag g.
@@ -182,17 +173,18 @@ fn take_fact(s: &[i64], k: usize, x: i64, g: i64) -> i64
 }
 
 // Puts the defaults into the lent values of the facts that are not given.
-pub fn fill_defaults(s: &[i64], h: Header, values: &mut [i64], given: &[i64])
-    requires { Accepted s.now h × (length values.old ≡ h.facts) × (length given.now ≡ h.facts) }
-    ensures { values.new ≡ assembled_values s.now h values.old given.now }
+pub fn fill_defaults(s: &Contract, values: &mut [i64], given: &[i64])
+    requires { (length values.old ≡ s.now.sheet.header.facts) × (length given.now ≡ s.now.sheet.header.facts) }
+    ensures { values.new ≡ assembled_values s.now.sheet.words.now s.now.sheet.header values.old given.now }
 {
-    let n = h.facts;
+    let n = s.sheet.header.facts;
     for k in 0..n {
-        values[k] = take_fact(s, k, values[k], given[k]);
+        values[k] = take_fact(s.sheet.words, k, values[k], given[k]);
     }
 }
 
-// The word that stands for fact k: its value, or where the elements of a list start and how many there are.
+// The word that stands for fact k: its value, or where the elements of a list start and how many there are. One word for either, since the crates
+// above lend the buffer as a slice of words, in fixed memory.
 fn hold_fact(s: &[i64], k: usize, values: &[i64], given: &[i64], lengths: &[i64], used: Used) -> i64
     requires at_fact { AtFact s.now k used × (k < length values.now) × (k < length given.now) }
     requires lengths_in_bounds { is_list s.now k ≡ true → (used.lengths < length lengths.now) × (num_of (get_or lengths.now used.lengths (pos 0)) ≤ 100) }
@@ -207,25 +199,15 @@ fn hold_fact(s: &[i64], k: usize, values: &[i64], given: &[i64], lengths: &[i64]
 }
 
 // The facts for a call that leaves the lent values as they were, in a buffer of its own.
-pub fn assemble(
-    s: &[i64],
-    h: Header,
-    values: &[i64],
-    given: &[i64],
-    lengths: &[i64],
-    facts: &mut [i64],
-)
-    requires accepted { Accepted s.now h × (length values.now ≡ h.facts) × (length given.now ≡ h.facts) × (length facts.old ≡ h.facts) }
-    requires lengths_in { LengthsIn s.now h lengths.now }
-    ensures { (lists : List ℤ) → held s.now facts.new lists ≡ assembled s.now h (lent values.now given.now lists lengths.now) }
+pub fn assemble(s: &Contract, values: &[i64], given: &[i64], lengths: &[i64], facts: &mut [i64])
+    requires lengths { (length values.now ≡ s.now.sheet.header.facts) × (length given.now ≡ s.now.sheet.header.facts) × (length facts.old ≡ s.now.sheet.header.facts) }
+    requires lengths_in { LengthsIn s.now.sheet.words.now s.now.sheet.header lengths.now }
+    ensures { (lists : List ℤ) → held s.now.sheet.words.now facts.new lists ≡ assembled s.now.sheet.words.now s.now.sheet.header (lent values.now given.now lists lengths.now) }
 {
-    let n = h.facts;
-    let mut used = Used {
-        slots: 0,
-        lengths: 0,
-    };
+    let n = s.sheet.header.facts;
+    let mut used = Used::NONE;
     for k in 0..n {
-        facts[k] = hold_fact(s, k, values, given, lengths, used);
-        used = used.more(s, k);
+        facts[k] = hold_fact(s.sheet.words, k, values, given, lengths, used);
+        used = used.more(s.sheet.words, k);
     }
 }

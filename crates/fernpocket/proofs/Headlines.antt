@@ -12,7 +12,7 @@ use lib.ListN.{length, take, get_or}
 use Rattle.signed.specs.Words.{num}
 use Rattle.signed.specs.Compare.{holds}
 use Rattle.signed.proofs.Numbers.{num_of}
-use Rattle.words.specs.declared.Words.{Words}
+use Rattle.words.specs.declared.Record.{Record}
 use Rattle.answer.specs.declared.Refusal.{Refusal}
 use Rattle.answer.specs.Number.{number, place, done_answer}
 use Rattle.answer.specs.Answers.{status_answer, count_answer, counted_answer}
@@ -231,7 +231,7 @@ conversion_steps = converted_two
 -- sum has the seconds of both, their difference the seconds between them, and each of the six comparisons is that of their seconds.
 module _ (s : List ℤ) (a : (status_answer (checked s)).refusal ≡ pos 0) (facts : List FactValue) (verdicts : List ℤ) (n : ℕ)
     (l : n < (header_of s).nodes) (element : ℤ) where
-  abbrev words : Words
+  abbrev words : Record ℤ
   words = node_words s (header_of s) n
 
   abbrev seconds : ℕ → ℤ

@@ -1,5 +1,6 @@
 -- Laws behind the headline theorems: from 01's numbers to the answers' cases, and what each call then did.
 -- Assumes nothing.
+use Rattle.std.specs.Prelude.{Ok, Err}
 use mathlib.Core.Path.{◌≡◌, refl, sym, ap, subst, ◌∙◌}
 use mathlib.Core.Bool.{Bool, true, false, ◌&&◌}
 use mathlib.Core.List.{List, [], ◌∷◌, ◌++◌}
@@ -15,14 +16,8 @@ use Rattle.signed.specs.Words.{num, eq_z}
 use Rattle.signed.proofs.Numbers.{num_of, num_pos}
 use Rattle.answer.specs.declared.Refusal.{Refusal}
 use Rattle.answer.specs.declared.Refusal.TheVariants.{NoOutcome, LastPath, ManyOutcomes}
-use Rattle.answer.specs.declared.Status.{Status}
-use Rattle.answer.specs.declared.Status.TheVariants.{Refused}
-use Rattle.answer.specs.declared.Count.{Count}
-use Rattle.answer.specs.declared.Count.TheVariants.{Is, Refused as NoCount}
-use Rattle.answer.specs.declared.Counted.{Counted}
-use Rattle.answer.specs.declared.Counted.TheVariants.{Is as IsCounted, Refused as NotCounted}
+use Rattle.answer.specs.Answers.{tallied, Status, Count, Counted, status_answer, count_answer, counted_answer}
 use Rattle.answer.specs.Number.{number}
-use Rattle.answer.specs.Answers.{status_answer, count_answer, counted_answer}
 use Rattle.answer.proofs.Numbers.{number_some, status_done, count_done, count_eleven, count_sixteen, counted_done}
 use Rattle.layout.specs.declared.Header.{Header}
 use Rattle.layout.specs.Header.{header_of}
@@ -36,7 +31,6 @@ use Rattle.records.proofs.MixedTypes.{mixed_refused}
 use Rattle.records.specs.Operations.{outcomes}
 use Rattle.records.proofs.OperationLaws.{operation_ok}
 use Rattle.operation.specs.Mask.{in_mask}
-use Rattle.operation.specs.declared.Choice.TheVariants.{Outcome, Nothing, Several}
 use Rattle.operation.specs.Outcomes.{wanted_of, applicable, blocking, blocker, chosen}
 use Rattle.operation.specs.Ready.{Ready}
 use Rattle.operation.proofs.Movers.{moves_true, true_moves}
@@ -58,9 +52,7 @@ use Rattle.listing.specs.Inner.{Listed}
 use Rattle.walks.proofs.AllPaths.{path_list}
 use Rattle.run.proofs.RunPaths.{run_listed}
 use Rattle.reach.specs.Reached.{Reached, states_in}
-use Rattle.ladder.specs.declared.Climbed.{Climbed}
-use Rattle.ladder.specs.declared.Climbed.TheVariants.{At, Stopped}
-use Rattle.ladder.specs.Ladder.{opened, by, left, exists}
+use Rattle.ladder.specs.Ladder.{Climbed, opened, by, left, exists}
 use Rattle.ladder.proofs.ClimbLaws.{worked, by_all, climbed_at, opened_at, opened_done}
 use Rattle.evaluate.proofs.EvaluateLaws.{operate_early, asked_wanted, asked_records}
 use Rattle.calls.specs.Evaluation.{assemble_climb, assemble_answer, assemble_values, verdicts_climb, verdicts_answer, verdicts_verdicts, operate_climb, attempted_over, attempted_states_over, operate_answer, operate_states}
@@ -78,7 +70,7 @@ use Rattle.fernpocket.proofs.Covered.{under_header, Made, made, made_entity, mad
 
 -- ---- answers
 
-pub went_is : (c : Count) {n : ℕ} → Went (count_answer c) n → c ≡ Is n
+pub went_is : (c : Count) {n : ℕ} → Went (count_answer c) n → c ≡ Ok n
 went_is c {n} w = count_done c n w.refusal w.value
 
 -- an accepted sheet, by its number
@@ -118,11 +110,11 @@ module _ {s : List ℤ} {f : ℤ} {b : List ℕ} (u : FlowReady s f b) where
       go : (a : Counted) → (after_calls cs).answer ≡ a → Listed s (header_of s) (num f) b (nexts 0 (First ∷ cs)) (after_calls cs)
           → read_to13 s f k (public_call s f (after_calls cs).buffer Next) ≡ public_read_off s f k (public_call s f (after_calls cs).buffer Next)
           → read_to13 s f (suc k) (after_calls cs) ≡ public_read_off s f (suc k) (after_calls cs)
-      go (IsCounted t m) e l ih =
-          rw (read_to13, public_read_off, e, e) (ap (λ (z : List (List ℕ)). take m (after_calls cs).buffer ∷ z) ih)
-      go (NotCounted r) e l ih = rw (last (dec_lt (nexts 0 (First ∷ cs)) (count s (header_of s) (num f))), read_to13, public_read_off)
+      go (Ok w) e l ih =
+          rw (read_to13, public_read_off, e, e) (ap (λ (z : List (List ℕ)). take w.count (after_calls cs).buffer ∷ z) ih)
+      go (Err r) e l ih = rw (last (dec_lt (nexts 0 (First ∷ cs)) (count s (header_of s) (num f))), read_to13, public_read_off)
         where
-          last : Dec (nexts 0 (First ∷ cs) < count s (header_of s) (num f)) → (after_calls cs).answer ≡ NotCounted LastPath
+          last : Dec (nexts 0 (First ∷ cs) < count s (header_of s) (num f)) → (after_calls cs).answer ≡ Err LastPath
           last (yes d) = let z : ◌≡◌ {A = ℕ} 0 1 = cc (sym e ∙ l.answers d) in absurd (omega arith)
           last (no d) = l.refused.1 (omega arith)
 
@@ -136,13 +128,13 @@ module _ (s : List ℤ) (lent : LentFacts) (states : LentStates) (f : ℤ) (word
   pub ran_path_lem : (counted_answer (run_answer s lent states f words b)).refusal ≡ pos 0 → RanPath s lent states f words b
   ran_path_lem e =
       let w = counted_done (run_answer s lent states f words b) e in
-      by_all (λ (a : Counted). a ≡ IsCounted w.0 w.1 → RanPath s lent states f words b)
-      (run_climb s lent states f words (length b)) NotCounted _
+      by_all (λ (a : Counted). a ≡ tallied w.0 w.1 → RanPath s lent states f words b)
+      (run_climb s lent states f words (length b)) Err _
       (λ r p q. let z : ◌≡◌ {A = ℕ} 0 1 = cc in absurd (omega arith))
       (λ h p q. took p (run_takes_path s lent states f words b w.0 w.1 w.2))
       w.2
     where
-      took : {h : Header} → run_climb s lent states f words (length b) ≡ At h → TookPath s lent states f words b
+      took : {h : Header} → run_climb s lent states f words (length b) ≡ Ok h → TookPath s lent states f words b
           → RanPath s lent states f words b
       took p r =
           let header : header_of s ≡ r.header = (opened_at s refl r.sheet).header in
@@ -162,14 +154,14 @@ module _ (s : List ℤ) (lent : LentFacts) (states : LentStates) (f : ℤ) (word
 
 -- a call that stops on the ladder does; so it is enough that one past the ladder does
 kept : {A B : Type 0} (P : A → Type 0) (c : Climbed) (f : Refusal → A) (g : Header → A) (old : B) (work : Header → B)
-    → ((h : Header) → c ≡ At h → P (g h) → work h ≡ old) → P (by c f g) → left c old work ≡ old
+    → ((h : Header) → c ≡ Ok h → P (g h) → work h ≡ old) → P (by c f g) → left c old work ≡ old
 unfolding by
-kept P (At h) f g old work k x = k h refl x
-kept P (Stopped r) f g old work k x = refl
+kept P (Ok h) f g old work k x = k h refl x
+kept P (Err r) f g old work k x = refl
 
 module _ (s : List ℤ) (lent : LentFacts) (states : LentStates) (f : ℤ) (words : List ℤ) (b : List ℕ) where
   -- no run is refused past the ladder
-  runs : (h : Header) → run_climb s lent states f words (length b) ≡ At h
+  runs : (h : Header) → run_climb s lent states f words (length b) ≡ Ok h
       → WasRefused (counted_answer (ran_walk_over s h lent (gathered h states) (num f) words)) → ⊥
   runs h e x =
       x (ap (λ (a : Counted). (counted_answer a).refusal) (run_listed (runnable (going s lent states f words b refl e) refl refl) words).answers)
@@ -177,18 +169,18 @@ module _ (s : List ℤ) (lent : LentFacts) (states : LentStates) (f : ℤ) (word
   module _ (x : WasRefused (counted_answer (run_answer s lent states f words b))) where
     pub run_path_kept : run_path s lent states f words b ≡ b
     run_path_kept =
-        kept (λ (a : Counted). WasRefused (counted_answer a)) (run_climb s lent states f words (length b)) NotCounted _ b _
+        kept (λ (a : Counted). WasRefused (counted_answer a)) (run_climb s lent states f words (length b)) Err _ b _
         (λ h e y. absurd (runs h e y)) x
 
     pub run_states_kept : run_states s lent states f words b ≡ states.records
     run_states_kept =
-        kept (λ (a : Counted). WasRefused (counted_answer a)) (run_climb s lent states f words (length b)) NotCounted _ states.records _
+        kept (λ (a : Counted). WasRefused (counted_answer a)) (run_climb s lent states f words (length b)) Err _ states.records _
         (λ h e y. absurd (runs h e y)) x
 
 module _ (s : List ℤ) (f : ℤ) (b : List ℕ) where
   pub first_kept : WasRefused (counted_answer (first_answer s f b)) → first_path s f b ≡ b
   unfolding first_walk
-  first_kept x = kept (λ (a : Counted). WasRefused (counted_answer a)) (flow_climb s f (length b)) NotCounted _ b _ (λ h e y. absurd (y refl)) x
+  first_kept x = kept (λ (a : Counted). WasRefused (counted_answer a)) (flow_climb s f (length b)) Err _ b _ (λ h e y. absurd (y refl)) x
 
   following_kept : (h : Header) (t : Following) → WasRefused (counted_answer (answer_of s h t)) → buffer_of t b ≡ b
   unfolding answer_of buffer_of
@@ -199,13 +191,13 @@ module _ (s : List ℤ) (f : ℤ) (b : List ℕ) where
   pub next_kept : WasRefused (counted_answer (next_answer s f b)) → next_path s f b ≡ b
   unfolding next_walk next_laid
   next_kept x =
-      kept (λ (a : Counted). WasRefused (counted_answer a)) (flow_climb s f (length b)) NotCounted _ b _
+      kept (λ (a : Counted). WasRefused (counted_answer a)) (flow_climb s f (length b)) Err _ b _
       (λ h e y. following_kept h (following (paths s h (num f)) b) y) x
 
 filled_kept : {Y : Type 0} (c : Count) (result lent : List Y) → WasRefused (count_answer c) → filled c result lent ≡ lent
 unfolding filled
-filled_kept (Is n) result lent x = absurd (x refl)
-filled_kept (NoCount r) result lent x = refl
+filled_kept (Ok n) result lent x = absurd (x refl)
+filled_kept (Err r) result lent x = refl
 
 pub read_kept : (text : List ℕ) (words : List ℤ) → WasRefused (count_answer (read_answer text (length words))) → read_buffer text words ≡ words
 unfolding read_buffer
@@ -217,12 +209,12 @@ write_kept words text x = filled_kept (write_answer words (length text)) (text_o
 
 pub assemble_kept : (s : List ℤ) (lent : LentFacts) → WasRefused (status_answer (assemble_answer s lent)) → assemble_values s lent ≡ lent.values
 assemble_kept s lent x =
-    kept (λ (a : Status). WasRefused (status_answer a)) (assemble_climb s lent) Refused _ lent.values _ (λ h e y. absurd (y refl)) x
+    kept (λ (a : Status). WasRefused (status_answer a)) (assemble_climb s lent) Err _ lent.values _ (λ h e y. absurd (y refl)) x
 
 pub verdicts_kept : (s : List ℤ) (lent : LentFacts) (verdicts : List ℤ) → WasRefused (status_answer (verdicts_answer s lent (length verdicts)))
     → verdicts_verdicts s lent verdicts ≡ verdicts
 verdicts_kept s lent verdicts x =
-    kept (λ (a : Status). WasRefused (status_answer a)) (verdicts_climb s lent (length verdicts)) Refused _ verdicts _
+    kept (λ (a : Status). WasRefused (status_answer a)) (verdicts_climb s lent (length verdicts)) Err _ verdicts _
     (λ h e y. absurd (y refl)) x
 
 -- ---- operations
@@ -258,22 +250,22 @@ module _ (s : List ℤ) (lent : LentFacts) (q : LentStates) (p o v : ℤ) where
 
   attempt_kept : (h : Header) (st : List ℤ) (c : Count) → attempted_over s h lent st (num p) (num o) (wanted_of v) ≡ c
       → WasRefused (count_answer c) → attempted_states_over s h lent st (num p) (num o) (wanted_of v) ≡ st
-  attempt_kept h st (Is j) a x = absurd (x refl)
-  attempt_kept h st (NoCount r) a x = refused_states s h _ _ st (num p) (num o) (wanted_of v) r a
+  attempt_kept h st (Ok j) a x = absurd (x refl)
+  attempt_kept h st (Err r) a x = refused_states s h _ _ st (num p) (num o) (wanted_of v) r a
 
   pub operate_kept : WasRefused (count_answer (operate_answer s lent q p o v)) → operate_states s lent q p o v ≡ q.records
   operate_kept x =
-      kept (λ (a : Count). WasRefused (count_answer a)) (operate_climb s lent q p o v) NoCount _ q.records _
+      kept (λ (a : Count). WasRefused (count_answer a)) (operate_climb s lent q p o v) Err _ q.records _
       (λ h e y. ap (scattered q) (attempt_kept h (gathered h q) _ refl y) ∙ unchanged s h q (asked_records s lent q p o v refl e)) x
 
   -- an answer that no rung of the ladder gives is the attempt's
-  past : (c : Count) → ((r : Refusal) → c ≡ NoCount r → 8 < number r) → operate_answer s lent q p o v ≡ c
+  past : (c : Count) → ((r : Refusal) → c ≡ Err r → 8 < number r) → operate_answer s lent q p o v ≡ c
       → Made s lent q p o v × (attempted_over s (header_of s) lent states (num p) (num o) (wanted_of v) ≡ c)
   past c late w =
       by_all
       (λ (a : Count). a ≡ c
       → Made s lent q p o v × (attempted_over s (header_of s) lent states (num p) (num o) (wanted_of v) ≡ c))
-      (operate_climb s lent q p o v) NoCount _
+      (operate_climb s lent q p o v) Err _
       (λ r e a. absurd (omega (arith, operate_early s lent q p o v e, late r (sym a))))
       (λ h e a. (made s lent q p o v e, worked _ _ refl (made s lent q p o v e) refl ∙ w))
       w
@@ -287,12 +279,12 @@ module _ (s : List ℤ) (lent : LentFacts) (q : LentStates) (p o v : ℤ) where
   abbrev many : ℕ
   many = outcomes s (header_of s) (num o)
 
-  pub operated : (j : ℕ) → operate_answer s lent q p o v ≡ Is j → Operated s lent q p o v j
+  pub operated : (j : ℕ) → operate_answer s lent q p o v ≡ Ok j → Operated s lent q p o v j
   unfolding chosen
   operated j a =
-      let k = past (Is j) (λ r e. let z : ◌≡◌ {A = ℕ} 0 1 = cc in absurd (omega arith)) a in
+      let k = past (Ok j) (λ r e. let z : ◌≡◌ {A = ℕ} 0 1 = cc in absurd (omega arith)) a in
       let ready = attempt_ready s lent q p o v k.0 in
-      let w = chose_so s (header_of s) facts verdicts states (num p) (num o) (wanted_of v) (Outcome j) k.1 in
+      let w = chose_so s (header_of s) facts verdicts states (num p) (num o) (wanted_of v) (Ok j) tt k.1 in
       let c = chosen_applies applies blocks many (wanted_of v) j w.chosen in
       let few : j < 2 ^ 63 = omega (arith, c.0, (operation_ok ready.ready.accepted (num o) ready.ready.exists).outcomes_few) in
       let changed = outcome_states s (header_of s) facts verdicts states (num p) (num o) (wanted_of v) j k.1 in
@@ -329,8 +321,8 @@ module _ (s : List ℤ) (lent : LentFacts) (q : LentStates) (p o v : ℤ) where
   eleven e =
       let n = nat_abs (count_answer (operate_answer s lent q p o v)).place in
       let a = count_eleven (operate_answer s lent q p o v) e in
-      let k = past (NoCount (NoOutcome n)) (λ r z. let y : NoOutcome n ≡ r = cc in rw (← y) (omega arith)) a in
-      let c = (chose_so s (header_of s) facts verdicts states (num p) (num o) (wanted_of v) (Nothing n) k.1).chosen in
+      let k = past (Err (NoOutcome n)) (λ r z. let y : NoOutcome n ≡ r = cc in rw (← y) (omega arith)) a in
+      let c = (chose_so s (header_of s) facts verdicts states (num p) (num o) (wanted_of v) (Err (NoOutcome n)) tt k.1).chosen in
       let w = (attempt_ready s lent q p o v k.0).ready in
       let at = nothing_place applies blocks many (wanted_of v) n c in
       let wanted = word_not applies blocks many v n (asked_wanted s lent q p o v refl k.0) c in
@@ -349,9 +341,9 @@ module _ (s : List ℤ) (lent : LentFacts) (q : LentStates) (p o v : ℤ) where
   unfolding chosen
   sixteen e =
       let k =
-      past (NoCount ManyOutcomes) (λ r z. let y : ManyOutcomes ≡ r = cc in rw (← y) (omega arith))
+      past (Err ManyOutcomes) (λ r z. let y : ManyOutcomes ≡ r = cc in rw (← y) (omega arith))
       (count_sixteen (operate_answer s lent q p o v) e) in
-      let c = (chose_so s (header_of s) facts verdicts states (num p) (num o) (wanted_of v) Several k.1).chosen in
+      let c = (chose_so s (header_of s) facts verdicts states (num p) (num o) (wanted_of v) (Err ManyOutcomes) tt k.1).chosen in
       let t = word_several applies blocks many v c in (
         t.0,
         record {
@@ -365,11 +357,11 @@ module _ (s : List ℤ) (lent : LentFacts) (q : LentStates) (p o v : ℤ) where
       )
 
   -- what is decided is an outcome, or 11, or 16
-  value : (a : Count) → (count_answer a).refusal ≡ pos 0 → (n : ℕ) × (a ≡ Is n)
-  value (Is n) z = (n, refl)
-  value (NoCount r) z = absurd (number_some r z)
+  value : (a : Count) → (count_answer a).refusal ≡ pos 0 → (n : ℕ) × (a ≡ Ok n)
+  value (Ok n) z = (n, refl)
+  value (Err r) z = absurd (number_some r z)
 
-  went_with : (j : ℕ) → operate_answer s lent q p o v ≡ Is j → Went (count_answer (operate_answer s lent q p o v)) j
+  went_with : (j : ℕ) → operate_answer s lent q p o v ≡ Ok j → Went (count_answer (operate_answer s lent q p o v)) j
   went_with j a = rw a (record { refusal = refl; value = refl })
 
   -- of two applicable outcomes none is the only one
@@ -391,7 +383,7 @@ module _ (s : List ℤ) (lent : LentFacts) (q : LentStates) (p o v : ℤ) where
       go (inl a) =
           let w = value (operate_answer s lent q p o v) a in
           let y : k ≡ w.0 = cc (sym e ∙ (operated w.0 w.1).wanted wanted) in
-          went_with k (w.1 ∙ ap Is (sym y))
+          went_with k (w.1 ∙ ap Ok (sym y))
       go (inr (inl a)) = absurd (true_false t (rw (e, num_of k) at ((eleven a).wanted wanted)))
       go (inr (inr a)) = absurd (wanted (sixteen a).0)
 
@@ -404,7 +396,7 @@ module _ (s : List ℤ) (lent : LentFacts) (q : LentStates) (p o v : ℤ) where
       go (inl a) =
           let w = value (operate_answer s lent q p o v) a in
           let y : w.0 ≡ j = r.alone w.0 (operated w.0 w.1).exists (operated w.0 w.1).applies in
-          went_with j (w.1 ∙ ap Is y)
+          went_with j (w.1 ∙ ap Ok y)
       go (inr (inl a)) = absurd (true_false r.applies ((eleven a).none e j r.exists))
       go (inr (inr a)) = absurd (two_alone (sixteen a).1 j r.alone)
 
@@ -425,18 +417,18 @@ module _ (s : List ℤ) (e : ℤ) where
 
   -- what S2 answers where it goes through
   pub mask_found : (m : ℕ) → Went (counted_answer (reachable_answer s e)) m
-      → (reachable_answer s e ≡ IsCounted m (states_in m)) × ((q : ℕ) → Reached s (header_of s) (num e) q ↔ (in_mask m q ≡ true))
+      → (reachable_answer s e ≡ tallied m (states_in m)) × ((q : ℕ) → Reached s (header_of s) (num e) q ↔ (in_mask m q ≡ true))
   mask_found m w =
       let d = counted_done (reachable_answer s e) w.refusal in
       let r =
-      by_all (λ (c : Counted). c ≡ IsCounted d.0 d.1 → MaskIs s (header_of s) (num e) (reachable_answer s e)) (report_climb s named) NotCounted _
+      by_all (λ (c : Counted). c ≡ tallied d.0 d.1 → MaskIs s (header_of s) (num e) (reachable_answer s e)) (report_climb s named) Err _
       (λ r p x. let z : ◌≡◌ {A = ℕ} 0 1 = cc in absurd (omega arith))
       (λ h p x. is (under_header s (report_rungs named) p))
       d.2 in
       let y : r.mask ≡ m = ap nat_abs (sym (ap (λ (c : Counted). (counted_answer c).value) r.is) ∙ w.value) in
       (rw y at r.is, λ q. rw y at (r.each q))
     where
-      is : report_climb s named ≡ At (header_of s) → MaskIs s (header_of s) (num e) (reachable_answer s e)
+      is : report_climb s named ≡ Ok (header_of s) → MaskIs s (header_of s) (num e) (reachable_answer s e)
       is p = reachable_is s e (climbed_at (opened s) (report_rungs named) refl p).sheet (asked s named refl p).exist
 
   pub mask_reached : (m : ℕ) → Went (counted_answer (reachable_answer s e)) m → (q : ℕ) → Reached s (header_of s) (num e) q ↔ (in_mask m q ≡ true)

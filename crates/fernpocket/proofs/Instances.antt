@@ -1,5 +1,6 @@
 -- What operate and run do to the lent records: only named instances move, and only those of touched entities; only these are read.
 -- Assumes nothing.
+use Rattle.std.specs.Prelude.{Ok, Err}
 use mathlib.Core.Path.{◌≡◌, refl, sym, subst, ap, ◌∙◌}
 use mathlib.Core.Bool.{true, false}
 use mathlib.Core.List.{List}
@@ -12,8 +13,6 @@ use borrow.Author.Tests.{ltb-true, eqb-true}
 use Rattle.signed.specs.Words.{num}
 use Rattle.tables.proofs.Bools.{true_false, bool_cases, mid_no, tests}
 use Rattle.tables.proofs.Scans.{any_of}
-use Rattle.answer.specs.declared.Count.TheVariants.{Refused as NoCount}
-use Rattle.answer.specs.declared.Counted.TheVariants.{Refused as NoWalk}
 use Rattle.layout.specs.declared.Header.{Header}
 use Rattle.layout.specs.Header.{header_of}
 use Rattle.layout.specs.Tables.{effect, step, entity_of}
@@ -36,9 +35,7 @@ use Rattle.run.specs.Inner.{FlowAgree, FlowUntouched}
 use Rattle.run.proofs.Wants.{operation_there}
 use Rattle.run.proofs.Coverage.{flow_covers_on}
 use Rattle.walks.specs.Paths.{first_step_of, steps_of}
-use Rattle.ladder.specs.declared.Climbed.{Climbed}
-use Rattle.ladder.specs.declared.Climbed.TheVariants.{At}
-use Rattle.ladder.specs.Ladder.{opened, by, left, exists}
+use Rattle.ladder.specs.Ladder.{Climbed, opened, by, left, exists}
 use Rattle.ladder.proofs.ClimbLaws.{Open, opened_at, by_all, climb_same, by_same}
 use Rattle.calls.specs.Evaluation.{wanted_exists, operate_rungs, operate_climb, attempted_over, attempted_states_over, operate_answer, operate_states}
 use Rattle.calls.specs.Flows.{run_rungs, run_climb, ran_walk_over, ran_path_over, ran_states_over, run_answer, run_path, run_states}
@@ -175,8 +172,8 @@ module _ (s : List ℤ) (lent : LentFacts) (rs x y : List ℤ) (long : length x 
 
     reads : (operate_answer s lent one p o w ≡ operate_answer s lent other p o w) × (operate_states s lent one p o w ≡ operate_states s lent other p o w)
     reads = (
-      ap (λ (c : Climbed). by c NoCount (λ h. attempted_over s h lent (gathered h one) (num p) (num o) (wanted_of w))) operate_climbs
-          ∙ by_same (operate_climb s lent other p o w) NoCount _ _
+      ap (λ (c : Climbed). by c Err (λ h. attempted_over s h lent (gathered h one) (num p) (num o) (wanted_of w))) operate_climbs
+          ∙ by_same (operate_climb s lent other p o w) Err _ _
           (λ h e. let k = asked s lent other p o w refl e in
           attempted_agree s h (num o) (gathered h one) (gathered h other)
           (operate_agree (climb_header s _ e) k.known.sheet k.operation) _ _ (num p) (wanted_of w)),
@@ -184,7 +181,7 @@ module _ (s : List ℤ) (lent : LentFacts) (rs x y : List ℤ) (long : length x 
           ∙ by_same (operate_climb s lent other p o w) _ _ _ (λ h e. left_same h e),
     )
       where
-        left_same : (h : Header) → operate_climb s lent other p o w ≡ At h
+        left_same : (h : Header) → operate_climb s lent other p o w ≡ Ok h
             → scattered one (attempted_states_over s h lent (gathered h one) (num p) (num o) (wanted_of w))
             ≡ scattered other (attempted_states_over s h lent (gathered h other) (num p) (num o) (wanted_of w))
         left_same h e =
@@ -234,15 +231,15 @@ module _ (s : List ℤ) (lent : LentFacts) (rs x y : List ℤ) (long : length x 
     flow_reads : (run_answer s lent one f words b ≡ run_answer s lent other f words b) × (run_path s lent one f words b ≡ run_path s lent other f words b)
         × (run_states s lent one f words b ≡ run_states s lent other f words b)
     flow_reads = (
-      ap (λ (c : Climbed). by c NoWalk (λ h. ran_walk_over s h lent (gathered h one) (num f) words)) run_climbs
-          ∙ by_same (run_climb s lent other f words (length b)) NoWalk _ _ (λ h e. (ran h e).0),
+      ap (λ (c : Climbed). by c Err (λ h. ran_walk_over s h lent (gathered h one) (num f) words)) run_climbs
+          ∙ by_same (run_climb s lent other f words (length b)) Err _ _ (λ h e. (ran h e).0),
       ap (λ (c : Climbed). left c b (λ h. ran_path_over s h lent (gathered h one) (num f) words b)) run_climbs
           ∙ by_same (run_climb s lent other f words (length b)) _ _ _ (λ h e. (ran h e).1 b),
       ap (λ (c : Climbed). left c rs (λ h. scattered one (ran_states_over s h lent (gathered h one) (num f) words))) run_climbs
           ∙ by_same (run_climb s lent other f words (length b)) _ _ _ (λ h e. left_same h e),
     )
       where
-        ran : (h : Header) → run_climb s lent other f words (length b) ≡ At h
+        ran : (h : Header) → run_climb s lent other f words (length b) ≡ Ok h
             → (ran_walk_over s h lent (gathered h one) (num f) words ≡ ran_walk_over s h lent (gathered h other) (num f) words)
             × ((c : List ℕ) → ran_path_over s h lent (gathered h one) (num f) words c ≡ ran_path_over s h lent (gathered h other) (num f) words c)
         ran h e =
@@ -250,7 +247,7 @@ module _ (s : List ℤ) (lent : LentFacts) (rs x y : List ℤ) (long : length x 
             let z = climb_header s (run_rungs s lent other f words (length b)) e in
             ran_agree g.known.sheet g.lent.flow _ _ (gathered h one) (gathered h other) (run_agree z g.known.sheet g.lent.flow) words
 
-        left_same : (h : Header) → run_climb s lent other f words (length b) ≡ At h
+        left_same : (h : Header) → run_climb s lent other f words (length b) ≡ Ok h
             → scattered one (ran_states_over s h lent (gathered h one) (num f) words)
             ≡ scattered other (ran_states_over s h lent (gathered h other) (num f) words)
         left_same h e =

@@ -1,5 +1,6 @@
 -- "One instance each, all numbered 0, must answer as the old form did".
 -- Assumes nothing.
+use Rattle.std.specs.Prelude.{Ok, Err}
 use mathlib.Core.Path.{◌≡◌, refl, sym, subst, ap, ◌∙◌}
 use mathlib.Core.Bool.{true, false, ◌&&◌, ◌||◌}
 use mathlib.Core.List.{List, [], ◌∷◌, ◌++◌}
@@ -21,8 +22,6 @@ use Rattle.tables.proofs.Bools.{true_false, bool_cases, and_right, and_yes, and_
 use Rattle.tables.proofs.Scans.{below_suc, any_of}
 use Rattle.tables.proofs.Scanned.{fail_same}
 use Rattle.tables.proofs.Grown.{length_grown, grown_at}
-use Rattle.answer.specs.declared.Count.TheVariants.{Refused as NoCount}
-use Rattle.answer.specs.declared.Counted.TheVariants.{Refused as NoWalk}
 use Rattle.layout.specs.declared.Header.{Header}
 use Rattle.records.specs.Accepted.{Accepted}
 use Rattle.facts.specs.Lent.{LentFacts}
@@ -37,9 +36,7 @@ use Rattle.instances.proofs.Lengths.{lent_whole}
 use Rattle.attempt.proofs.AttemptLaws.{attempted_in}
 use Rattle.run.proofs.RunPaths.{run_states_in}
 use Rattle.run.proofs.Coverage.{flow_covers_all}
-use Rattle.ladder.specs.declared.Climbed.{Climbed}
-use Rattle.ladder.specs.declared.Climbed.TheVariants.{At, Stopped}
-use Rattle.ladder.specs.Ladder.{opened, by, left, matches, facts_lent}
+use Rattle.ladder.specs.Ladder.{Climbed, opened, by, left, matches, facts_lent}
 use Rattle.ladder.proofs.ClimbLaws.{passed, no_length, climbed_at, opened_at, climb_same, by_same}
 use Rattle.calls.specs.Evaluation.{operate_rungs, operate_climb, attempted_over, attempted_states_over, operate_answer, operate_states}
 use Rattle.calls.specs.Flows.{run_rungs, run_climb, ran_walk_over, ran_path_over, ran_states_over, run_answer, run_path, run_states}
@@ -186,10 +183,10 @@ module _ (st : List ℤ) where
 
 -- what a call leaves, seen through F
 left_through : {A B : Type 0} (F : A → B) (c : Climbed) (old : A) (g : Header → B) (k : Header → A)
-    → ((h : Header) → c ≡ At h → g h ≡ F (k h)) → left c (F old) g ≡ F (left c old k)
+    → ((h : Header) → c ≡ Ok h → g h ≡ F (k h)) → left c (F old) g ≡ F (left c old k)
 unfolding by
-left_through F (At h) old g k e = e h refl
-left_through F (Stopped r) old g k e = refl
+left_through F (Ok h) old g k e = e h refl
+left_through F (Err r) old g k e = refl
 
 module _ (s : List ℤ) (t : LentFacts) (st : List ℤ) where
   -- as many states as entities: then the records' length is right, all that is read is there, and 8 is what it was
@@ -229,8 +226,8 @@ module _ (s : List ℤ) (t : LentFacts) (st : List ℤ) where
     operate_climb_lem = climb_same (opened s) _ _ (λ h e. operate_rungs_lem h (opened_at s refl e).sheet)
 
     -- past the ladder there are as many states as entities
-    module _ {h : Header} (e : one_operate_climb s t st p o w ≡ At h) where
-      operate_at : operate_climb s t (one_each st) p o w ≡ At h
+    module _ {h : Header} (e : one_operate_climb s t st p o w ≡ Ok h) where
+      operate_at : operate_climb s t (one_each st) p o w ≡ Ok h
       operate_at = operate_climb_lem ∙ e
 
       operate_each : length st ≡ h.entities
@@ -251,8 +248,8 @@ module _ (s : List ℤ) (t : LentFacts) (st : List ℤ) where
     pub one_operates : (operate_answer s t (one_each st) p o w ≡ one_operate_answer s t st p o w)
         × (operate_states s t (one_each st) p o w ≡ one_records (one_operate_states s t st p o w))
     one_operates = (
-      ap (λ (c : Climbed). by c NoCount (λ h. attempted_over s h t (gathered h (one_each st)) (num p) (num o) (wanted_of w))) operate_climb_lem
-          ∙ by_same (one_operate_climb s t st p o w) NoCount _ _ (λ h e. rw (gathered_is st s h (operate_each e))),
+      ap (λ (c : Climbed). by c Err (λ h. attempted_over s h t (gathered h (one_each st)) (num p) (num o) (wanted_of w))) operate_climb_lem
+          ∙ by_same (one_operate_climb s t st p o w) Err _ _ (λ h e. rw (gathered_is st s h (operate_each e))),
       ap (λ (c : Climbed). left c (one_records st) (λ h. scattered (one_each st) (moved h))) operate_climb_lem
           ∙ left_through one_records (one_operate_climb s t st p o w) st _ _ (λ h e. operate_left e),
     )
@@ -272,8 +269,8 @@ module _ (s : List ℤ) (t : LentFacts) (st : List ℤ) where
     run_climb_lem : run_climb s t (one_each st) f words (length b) ≡ one_run_climb s t st f words (length b)
     run_climb_lem = climb_same (opened s) _ _ (λ h e. run_rungs_lem h (opened_at s refl e).sheet)
 
-    module _ {h : Header} (e : one_run_climb s t st f words (length b) ≡ At h) where
-      run_at : run_climb s t (one_each st) f words (length b) ≡ At h
+    module _ {h : Header} (e : one_run_climb s t st f words (length b) ≡ Ok h) where
+      run_at : run_climb s t (one_each st) f words (length b) ≡ Ok h
       run_at = run_climb_lem ∙ e
 
       run_each : length st ≡ h.entities
@@ -294,8 +291,8 @@ module _ (s : List ℤ) (t : LentFacts) (st : List ℤ) where
         × (run_path s t (one_each st) f words b ≡ one_run_path s t st f words b)
         × (run_states s t (one_each st) f words b ≡ one_records (one_run_states s t st f words b))
     one_runs = (
-      ap (λ (c : Climbed). by c NoWalk (λ h. ran_walk_over s h t (gathered h (one_each st)) (num f) words)) run_climb_lem
-          ∙ by_same (one_run_climb s t st f words (length b)) NoWalk _ _ (λ h e. rw (gathered_is st s h (run_each e))),
+      ap (λ (c : Climbed). by c Err (λ h. ran_walk_over s h t (gathered h (one_each st)) (num f) words)) run_climb_lem
+          ∙ by_same (one_run_climb s t st f words (length b)) Err _ _ (λ h e. rw (gathered_is st s h (run_each e))),
       ap (λ (c : Climbed). left c b (λ h. ran_path_over s h t (gathered h (one_each st)) (num f) words b)) run_climb_lem
           ∙ by_same (one_run_climb s t st f words (length b)) _ _ _ (λ h e. rw (gathered_is st s h (run_each e))),
       ap (λ (c : Climbed). left c (one_records st) (λ h. scattered (one_each st) (gone h))) run_climb_lem

@@ -1,5 +1,6 @@
 -- A verdict by a when-node that is a quantifier, element by element of what was lent.
 -- Assumes nothing.
+use Rattle.std.specs.Prelude.{Ok, Err}
 use mathlib.Core.Path.{◌≡◌, refl, sym, ap, subst, ◌∙◌}
 use mathlib.Core.Bool.{Bool, true}
 use mathlib.Core.List.{List}
@@ -11,8 +12,7 @@ use native.Mathlib.Omega.{arith}
 use borrow.Author.Tests.{lt-ltb}
 use Rattle.tables.proofs.Elements.{length_from, from_at}
 use Rattle.signed.specs.Words.{num, eq_z}
-use Rattle.answer.specs.declared.Status.TheVariants.{Done, Refused}
-use Rattle.answer.specs.Answers.{status_answer}
+use Rattle.answer.specs.Answers.{status_answer, Status}
 use Rattle.answer.proofs.Numbers.{status_done}
 use Rattle.answer.proofs.Distinct.{refused_done}
 use Rattle.layout.specs.declared.Header.{Header}
@@ -33,20 +33,18 @@ use Rattle.predicate.specs.Values.{value_of, truth}
 use Rattle.predicate.specs.Verdicts.{when_node, verdicts_of}
 use Rattle.predicate.proofs.VerdictLaws.{verdict_is}
 use Rattle.predicate.proofs.QuantifierLaws.{for_all_each, exists_some}
-use Rattle.ladder.specs.declared.Climbed.{Climbed}
-use Rattle.ladder.specs.declared.Climbed.TheVariants.{At, Stopped}
-use Rattle.ladder.specs.Ladder.{opened, by, left}
+use Rattle.ladder.specs.Ladder.{Climbed, opened, by, left}
 use Rattle.ladder.proofs.ClimbLaws.{climbed_at, opened_at}
 use Rattle.calls.specs.Evaluation.{verdicts_rungs, verdicts_climb, verdicts_answer, verdicts_verdicts}
 use Rattle.fernpocket.specs.Promised.{elements_of_rule, body_true}
 
 -- ---- a call that goes through worked under the sheet's header
 
-went_under : {A : Type 0} (c : Climbed) (old : A) (work : Header → A) → by c Refused (λ _. Done) ≡ Done
-    → (h : Header) × (c ≡ At h) × (left c old work ≡ work h)
+went_under : {A : Type 0} (c : Climbed) (old : A) (work : Header → A) → by {A = Status} c Err (λ _. Ok tt) ≡ Ok tt
+    → (h : Header) × (c ≡ Ok h) × (left c old work ≡ work h)
 unfolding by
-went_under (At h) old work e = (h, refl, refl)
-went_under (Stopped r) old work e = absurd (refused_done e)
+went_under (Ok h) old work e = (h, refl, refl)
+went_under (Err r) old work e = absurd (refused_done e)
 
 -- ---- the list of the when-node
 
@@ -85,7 +83,7 @@ module _ (s : List ℤ) (t : LentFacts) (out : List ℤ) (w : (status_answer (ve
   abbrev facts : List FactValue
   facts = assembled s h t
 
-  under : (g : Header) × (verdicts_climb s t (length out) ≡ At g) × (verdicts_verdicts s t out ≡ verdicts_of s g (assembled s g t))
+  under : (g : Header) × (verdicts_climb s t (length out) ≡ Ok g) × (verdicts_verdicts s t out ≡ verdicts_of s g (assembled s g t))
   under = went_under (verdicts_climb s t (length out)) out (λ g. verdicts_of s g (assembled s g t)) (status_done _ w)
 
   -- the sheet is accepted, and the verdicts are those over the lent facts

@@ -1,13 +1,12 @@
 -- 01's own rule of "Operation (004)", which 02's CR 1 replaces: "the first applicable outcome in declared order is chosen"; and what an
 -- operation call would answer and leave by it, on the named instances. Its place for 11 is 0. No contract cites this: the law `as_before` does.
 -- Assumes nothing.
-use Rattle.std.specs.Prelude.{Bool, not, cond, ◌&&◌, List, ℕ, ℤ, pos, ltb}
+use Rattle.std.specs.Prelude.{Bool, not, cond, ◌&&◌, List, ℕ, ℤ, pos, ltb, Ok, Err}
 use Rattle.tables.specs.Scan.{first_fail}
 use Rattle.signed.specs.Words.{num, eq_z}
 use Rattle.answer.specs.declared.Answer.{Answer}
-use Rattle.answer.specs.declared.Status.{Status}
-use Rattle.answer.specs.declared.Count.{Count}
-use Rattle.answer.specs.declared.Count.TheVariants.{Refused as NoCount}
+use Rattle.answer.specs.declared.Refusal.TheVariants.{NoOutcome}
+use Rattle.answer.specs.Answers.{Status, Count}
 use Rattle.layout.specs.declared.Header.{Header}
 use Rattle.node.specs.FactValues.{FactValue}
 use Rattle.records.specs.Operations.{outcomes}
@@ -17,14 +16,11 @@ use Rattle.facts.specs.Assembled.{assembled}
 use Rattle.predicate.specs.Values.{truth}
 use Rattle.predicate.specs.Verdicts.{verdicts_of}
 use Rattle.operation.specs.Mask.{allowed}
-use Rattle.operation.specs.declared.Choice.{Choice}
-use Rattle.operation.specs.declared.Choice.TheVariants.{Outcome, Nothing}
 use Rattle.operation.specs.Outcomes.{applicable}
 use Rattle.instances.specs.Records.{LentStates, states_lent, records_fault}
 use Rattle.instances.specs.Named.{gathered, scattered, has, covers}
 use Rattle.attempt.specs.Attempts.{precondition, attempt_answer, states_after}
-use Rattle.ladder.specs.declared.Climbed.{Climbed}
-use Rattle.ladder.specs.Ladder.{rungs, opened, climb, by, left, exists, facts_lent}
+use Rattle.ladder.specs.Ladder.{Climbed, rungs, opened, climb, by, left, exists, facts_lent}
 
 -- an answer with 01's place for 11
 unfoldable pub placeless : Answer → Answer
@@ -34,8 +30,8 @@ placeless a = record { refusal = a.refusal; place = cond (eq_z a.refusal (pos 11
 unfoldable pub first_applicable : (ℕ → Bool) → ℕ → ℕ
 first_applicable applies n = first_fail (λ j. not (applies j)) 0 n
 
-unfoldable pub first_choice : (ℕ → Bool) → ℕ → Choice
-first_choice applies n = cond (ltb (first_applicable applies n) n) (Outcome (first_applicable applies n)) (Nothing 0)
+unfoldable pub first_choice : (ℕ → Bool) → ℕ → Count
+first_choice applies n = cond (ltb (first_applicable applies n) n) (Ok (first_applicable applies n)) (Err (NoOutcome 0))
 
 unfoldable pub attempted_before : List ℤ → Header → List FactValue → List ℤ → List ℤ → ℕ → ℕ → Count
 attempted_before s h facts verdicts states p o =
@@ -55,7 +51,7 @@ over_before s h lent states p o = let facts = assembled s h lent in attempted_be
 
 abbrev pub operate_before : List ℤ → LentFacts → LentStates → ℤ → ℤ → Count
 operate_before s lent q p o =
-    by (climb_before s lent q p o) NoCount (λ h. over_before s h lent (gathered h q) (num p) (num o))
+    by (climb_before s lent q p o) Err (λ h. over_before s h lent (gathered h q) (num p) (num o))
 
 abbrev pub states_before : List ℤ → LentFacts → LentStates → ℤ → ℤ → List ℤ
 states_before s lent q p o =

@@ -1,17 +1,12 @@
 -- The states before 02's CR 7: one word for each entity; and what operate and run answered and left by it. No contract cites this: the laws
 -- `one_each_operates` and `one_each_runs` do, "One instance each, all numbered 0, must answer as the old form did".
 -- Assumes nothing.
-use Rattle.std.specs.Prelude.{Bool, cond, ◌&&◌, List, [], ◌∷◌, ◌++◌, ℕ, zero, suc, ℤ, pos, length, get_or, ltb}
+use Rattle.std.specs.Prelude.{Bool, cond, ◌&&◌, List, [], ◌∷◌, ◌++◌, ℕ, zero, suc, ℤ, pos, length, get_or, ltb, Ok, Err}
 use Rattle.tables.specs.Scan.{first_fail}
 use Rattle.tables.specs.Table.{grown}
 use Rattle.signed.specs.Words.{num}
 use Rattle.answer.specs.declared.Refusal.TheVariants.{State}
-use Rattle.answer.specs.declared.Status.{Status}
-use Rattle.answer.specs.declared.Status.TheVariants.{Done, Refused}
-use Rattle.answer.specs.declared.Count.{Count}
-use Rattle.answer.specs.declared.Count.TheVariants.{Refused as NoCount}
-use Rattle.answer.specs.declared.Counted.{Counted}
-use Rattle.answer.specs.declared.Counted.TheVariants.{Refused as NoWalk}
+use Rattle.answer.specs.Answers.{Status, Count, Counted}
 use Rattle.layout.specs.declared.Header.{Header}
 use Rattle.records.specs.Entities.{states as state_count}
 use Rattle.facts.specs.Lent.{LentFacts}
@@ -20,8 +15,7 @@ use Rattle.operation.specs.States.{present}
 use Rattle.operation.specs.Outcomes.{wanted_of}
 use Rattle.instances.specs.Records.{LentStates, lent_states}
 use Rattle.run.specs.Runs.{good_words}
-use Rattle.ladder.specs.declared.Climbed.{Climbed}
-use Rattle.ladder.specs.Ladder.{rungs, opened, climb, by, left, exists, matches, facts_lent}
+use Rattle.ladder.specs.Ladder.{Climbed, rungs, opened, climb, by, left, exists, matches, facts_lent}
 use Rattle.calls.specs.Evaluation.{wanted_exists, attempted_over, attempted_states_over}
 use Rattle.calls.specs.Flows.{wanted_lent, path_lent, ran_walk_over, ran_path_over, ran_states_over}
 
@@ -46,7 +40,7 @@ unfoldable pub first_stray : List ℤ → Header → List ℤ → ℕ
 first_stray s h states = first_fail (state_in s h states) 0 h.entities
 
 unfoldable pub states_fault : List ℤ → Header → List ℤ → Status
-states_fault s h states = cond (ltb (first_stray s h states) h.entities) (Refused (State (first_stray s h states))) Done
+states_fault s h states = cond (ltb (first_stray s h states) h.entities) (Err (State (first_stray s h states))) (Ok tt)
 
 -- ---- the calls as they were
 
@@ -61,7 +55,7 @@ one_operate_climb s t states p o w = climb (opened s) (one_operate_rungs s t sta
 
 abbrev pub one_operate_answer : List ℤ → LentFacts → List ℤ → ℤ → ℤ → ℤ → Count
 one_operate_answer s t states p o w =
-    by (one_operate_climb s t states p o w) NoCount (λ h. attempted_over s h t states (num p) (num o) (wanted_of w))
+    by (one_operate_climb s t states p o w) Err (λ h. attempted_over s h t states (num p) (num o) (wanted_of w))
 
 abbrev pub one_operate_states : List ℤ → LentFacts → List ℤ → ℤ → ℤ → ℤ → List ℤ
 one_operate_states s t states p o w =
@@ -79,7 +73,7 @@ one_run_climb s t states f words room = climb (opened s) (one_run_rungs s t stat
 
 abbrev pub one_run_answer : List ℤ → LentFacts → List ℤ → ℤ → List ℤ → List ℕ → Counted
 one_run_answer s t states f words b =
-    by (one_run_climb s t states f words (length b)) NoWalk (λ h. ran_walk_over s h t states (num f) words)
+    by (one_run_climb s t states f words (length b)) Err (λ h. ran_walk_over s h t states (num f) words)
 
 abbrev pub one_run_path : List ℤ → LentFacts → List ℤ → ℤ → List ℤ → List ℕ → List ℕ
 one_run_path s t states f words b =

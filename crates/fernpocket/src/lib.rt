@@ -11,7 +11,7 @@ ghost use Rattle.calls.specs.Flows.{first_answer, first_path, next_answer, next_
 ghost use Rattle.calls.specs.Reports.{states_answer, reachable_answer, admissible_answer, can_cause_answer, rules_answer, stratum_answer, outcomes_answer, tree_size_answer, depth_answer};
 ghost use Rattle.text.specs.Calls.{read_answer, read_buffer, write_answer, write_buffer};
 
-use answer::{Answer, of_count, of_counted, of_status};
+use answer::Answer;
 use reports::{Report, look_up};
 
 // The sheet checker.
@@ -19,7 +19,7 @@ use reports::{Report, look_up};
 pub extern "C" fn fernpocket_check(sheet: &[i64]) -> Answer
     ensures { result ≡ status_answer (checked sheet.now) }
 {
-    of_status(sheet::check(sheet))
+    Answer::of(sheet::check(sheet))
 }
 
 // The text of a sheet, read into words.
@@ -28,7 +28,7 @@ pub extern "C" fn fernpocket_read_text(text: &[u8], words: &mut [i64]) -> Answer
     ensures value { result ≡ count_answer (read_answer text.now (length words.old)) }
     ensures words_after { words.new ≡ read_buffer text.now words.old }
 {
-    of_count(text::read(text, words))
+    Answer::of(text::read(text, words))
 }
 
 // Words written as the text of a sheet.
@@ -37,7 +37,7 @@ pub extern "C" fn fernpocket_write_text(words: &[i64], text: &mut [u8]) -> Answe
     ensures value { result ≡ count_answer (write_answer words.now (length text.old)) }
     ensures text_after { text.new ≡ write_buffer words.now text.old }
 {
-    of_count(text::write(words, text))
+    Answer::of(text::write(words, text))
 }
 
 // Fact assembly: the defaults are put into the lent values.
@@ -52,7 +52,7 @@ pub extern "C" fn fernpocket_assemble(
     ensures value { result ≡ status_answer (assemble_answer sheet.now (lent values.old given.now lists.now lengths.now)) }
     ensures values_after { values.new ≡ assemble_values sheet.now (lent values.old given.now lists.now lengths.now) }
 {
-    of_status(evaluate::assemble(sheet, values, given, lists, lengths))
+    Answer::of(evaluate::assemble(sheet, values, given, lists, lengths))
 }
 
 // The verdicts over the lent facts.
@@ -68,7 +68,7 @@ pub extern "C" fn fernpocket_verdicts(
     ensures value { result ≡ status_answer (verdicts_answer sheet.now (lent values.now given.now lists.now lengths.now) (length verdicts.old)) }
     ensures verdicts_after { verdicts.new ≡ verdicts_verdicts sheet.now (lent values.now given.now lists.now lengths.now) verdicts.old }
 {
-    of_status(evaluate::verdicts(sheet, values, given, lists, lengths, verdicts))
+    Answer::of(evaluate::verdicts(sheet, values, given, lists, lengths, verdicts))
 }
 
 // One operation by a persona on the named instances, who wants the outcome of that number, or with −1 the only one that is applicable. The number
@@ -89,7 +89,7 @@ pub extern "C" fn fernpocket_operate(
     ensures value { result ≡ count_answer (operate_answer sheet.now (lent values.now given.now lists.now lengths.now) (lent_states states.old instances.now) persona operation wanted) }
     ensures states_after { states.new ≡ operate_states sheet.now (lent values.now given.now lists.now lengths.now) (lent_states states.old instances.now) persona operation wanted }
 {
-    of_count(evaluate::operate(
+    Answer::of(evaluate::operate(
         sheet, values, given, lists, lengths, states, instances, persona, operation, wanted,
     ))
 }
@@ -113,7 +113,7 @@ pub extern "C" fn fernpocket_run(
     ensures path_after { path.new ≡ run_path sheet.now (lent values.now given.now lists.now lengths.now) (lent_states states.old instances.now) flow wanted.now path.old }
     ensures states_after { states.new ≡ run_states sheet.now (lent values.now given.now lists.now lengths.now) (lent_states states.old instances.now) flow wanted.now path.old }
 {
-    of_counted(flows::run(
+    Answer::of(flows::run(
         sheet, values, given, lists, lengths, states, instances, flow, wanted, path,
     ))
 }
@@ -124,7 +124,7 @@ pub extern "C" fn fernpocket_first(sheet: &[i64], flow: i64, path: &mut [u16]) -
     ensures value { result ≡ counted_answer (first_answer sheet.now flow path.old) }
     ensures path_after { path.new ≡ first_path sheet.now flow path.old }
 {
-    of_counted(flows::first(sheet, flow, path))
+    Answer::of(flows::first(sheet, flow, path))
 }
 
 // S6: the path of a flow that follows the one at the buffer's head.
@@ -133,7 +133,7 @@ pub extern "C" fn fernpocket_next(sheet: &[i64], flow: i64, path: &mut [u16]) ->
     ensures value { result ≡ counted_answer (next_answer sheet.now flow path.old) }
     ensures path_after { path.new ≡ next_path sheet.now flow path.old }
 {
-    of_counted(flows::next(sheet, flow, path))
+    Answer::of(flows::next(sheet, flow, path))
 }
 
 // S1: the number of an entity's states.
@@ -141,7 +141,7 @@ pub extern "C" fn fernpocket_next(sheet: &[i64], flow: i64, path: &mut [u16]) ->
 pub extern "C" fn fernpocket_states(sheet: &[i64], entity: i64) -> Answer
     ensures { result ≡ count_answer (states_answer sheet.now entity) }
 {
-    of_count(look_up(sheet, Report::States, entity))
+    Answer::of(look_up(sheet, Report::States, entity))
 }
 
 // S2: the mask of the states reached from the initial one. The count is its scans, as many as the mask has states.
@@ -149,7 +149,7 @@ pub extern "C" fn fernpocket_states(sheet: &[i64], entity: i64) -> Answer
 pub extern "C" fn fernpocket_reachable(sheet: &[i64], entity: i64) -> Answer
     ensures { result ≡ counted_answer (reachable_answer sheet.now entity) }
 {
-    of_counted(reports::reachable(sheet, entity))
+    Answer::of(reports::reachable(sheet, entity))
 }
 
 // S3a: 1 for yes, 0 for no.
@@ -163,7 +163,7 @@ pub extern "C" fn fernpocket_admissible(
 ) -> Answer
     ensures { result ≡ count_answer (admissible_answer sheet.now entity state persona operation) }
 {
-    of_count(reports::admissible(sheet, entity, state, persona, operation))
+    Answer::of(reports::admissible(sheet, entity, state, persona, operation))
 }
 
 // S4: 1 for yes, 0 for no.
@@ -177,7 +177,7 @@ pub extern "C" fn fernpocket_can_cause(
 ) -> Answer
     ensures { result ≡ count_answer (can_cause_answer sheet.now persona entity from to) }
 {
-    of_count(reports::can_cause(sheet, persona, entity, from, to))
+    Answer::of(reports::can_cause(sheet, persona, entity, from, to))
 }
 
 // S5: the number of rules.
@@ -185,7 +185,7 @@ pub extern "C" fn fernpocket_can_cause(
 pub extern "C" fn fernpocket_rules(sheet: &[i64]) -> Answer
     ensures { result ≡ count_answer (rules_answer sheet.now) }
 {
-    of_count(reports::rules(sheet))
+    Answer::of(reports::rules(sheet))
 }
 
 // S5: a rule's stratum.
@@ -193,7 +193,7 @@ pub extern "C" fn fernpocket_rules(sheet: &[i64]) -> Answer
 pub extern "C" fn fernpocket_stratum(sheet: &[i64], rule: i64) -> Answer
     ensures { result ≡ count_answer (stratum_answer sheet.now rule) }
 {
-    of_count(look_up(sheet, Report::Stratum, rule))
+    Answer::of(look_up(sheet, Report::Stratum, rule))
 }
 
 // S5: the number of an operation's outcomes.
@@ -201,7 +201,7 @@ pub extern "C" fn fernpocket_stratum(sheet: &[i64], rule: i64) -> Answer
 pub extern "C" fn fernpocket_outcomes(sheet: &[i64], operation: i64) -> Answer
     ensures { result ≡ count_answer (outcomes_answer sheet.now operation) }
 {
-    of_count(look_up(sheet, Report::Outcomes, operation))
+    Answer::of(look_up(sheet, Report::Outcomes, operation))
 }
 
 // S7: the number of nodes in the tree under a node.
@@ -209,7 +209,7 @@ pub extern "C" fn fernpocket_outcomes(sheet: &[i64], operation: i64) -> Answer
 pub extern "C" fn fernpocket_tree_size(sheet: &[i64], node: i64) -> Answer
     ensures { result ≡ count_answer (tree_size_answer sheet.now node) }
 {
-    of_count(look_up(sheet, Report::TreeSize, node))
+    Answer::of(look_up(sheet, Report::TreeSize, node))
 }
 
 // S7: the number of steps on a flow's longest path.
@@ -217,5 +217,5 @@ pub extern "C" fn fernpocket_tree_size(sheet: &[i64], node: i64) -> Answer
 pub extern "C" fn fernpocket_depth(sheet: &[i64], flow: i64) -> Answer
     ensures { result ≡ count_answer (depth_answer sheet.now flow) }
 {
-    of_count(look_up(sheet, Report::Depth, flow))
+    Answer::of(look_up(sheet, Report::Depth, flow))
 }

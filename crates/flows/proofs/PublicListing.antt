@@ -1,5 +1,6 @@
 -- Demand 3 of the public calls: over every list of first and next that starts with a first, and of every run by itself.
 -- Assumes nothing.
+use Rattle.std.specs.Prelude.{Ok, Err}
 use mathlib.Core.Path.{◌≡◌, refl, ap, ◌∙◌}
 use mathlib.Core.List.{List, [], ◌∷◌}
 use Prim.Native.Nat.{ℕ, zero, suc, ◌≤◌, ◌<◌}
@@ -9,10 +10,7 @@ use native.Mathlib.Omega.{arith}
 use native.Mathlib.Decide.{dec_lt}
 use borrow.Author.Tests.{ltb-true, le-leb}
 use Rattle.signed.specs.Words.{num}
-use Rattle.answer.specs.Answers.{counted_answer}
-use Rattle.answer.specs.declared.Counted.{Counted}
-use Rattle.answer.specs.declared.Counted.TheVariants.{Is as Walked, Refused as NoWalk}
-use Rattle.answer.specs.declared.Status.TheVariants.{Done}
+use Rattle.answer.specs.Answers.{tallied, counted_answer, Counted}
 use Rattle.layout.specs.declared.Header.{Header}
 use Rattle.facts.specs.Lent.{LentFacts}
 use Rattle.instances.specs.Records.{LentStates}
@@ -26,7 +24,6 @@ use Rattle.listing.specs.Lists.{Call, First, Next, State, nexts, count}
 use Rattle.listing.proofs.Listing.{calls_listed, listing, held_length, listing_whole, listing_paths}
 use Rattle.run.specs.Runs.{wanted_at, ran, ran_path}
 use Rattle.run.proofs.RunPaths.{run_listed}
-use Rattle.ladder.specs.declared.Climbed.TheVariants.{At}
 use Rattle.ladder.specs.Ladder.{opened}
 use Rattle.ladder.proofs.ClimbLaws.{all_passed, opened_at, climbed_at, climbs, by_all}
 use Rattle.calls.specs.Flows.{flow_rungs, run_rungs, run_climb, run_answer}
@@ -41,7 +38,7 @@ module _ {s : List ℤ} {h : Header} {f : ℤ} {b : List ℕ} (u : Listable s h 
   listable_lent = record { sheet = (opened_at s refl u.sheet).sheet; flow = ltb-true _ _ u.flow; room = u.room }
 
   -- nothing is refused by the ladder, on any buffer of that length
-  passes : (c : List ℕ) → length c ≡ length b → flow_rungs s f (length c) h ≡ Done
+  passes : (c : List ℕ) → length c ≡ length b → flow_rungs s f (length c) h ≡ Ok tt
   unfolding flow_rungs
   passes c e =
       all_passed
@@ -109,8 +106,8 @@ module _ {s : List ℤ} {h : Header} {f : ℤ} {b : List ℕ} (u : Listable s h 
       go : (a : Counted) → t.answer ≡ a
           → public_read_off s f k (public_call s f t.buffer Next) ≡ read_off s h (num f) k (called s h (num f) t.buffer Next)
           → public_read_off s f (suc k) t ≡ read_off s h (num f) (suc k) t
-      go (Walked e m) q after = rw (q, public_read_off, read_off) (ap (λ (z : List (List ℕ)). take m t.buffer ∷ z) after)
-      go (NoWalk x) q after = rw (q, public_read_off, read_off)
+      go (Ok w) q after = rw (q, public_read_off, read_off) (ap (λ (z : List (List ℕ)). take w.count t.buffer ∷ z) after)
+      go (Err x) q after = rw (q, public_read_off, read_off)
 
   -- the paths read off the buffer are the flow's list of paths, which is every path, each once, in order
   pub public_whole : (k : ℕ) → count s h (num f) < k
@@ -124,14 +121,14 @@ module _ {s : List ℤ} {h : Header} {f : ℤ} {b : List ℕ} (u : Listable s h 
 
 -- any run that is not refused, whatever its facts and states and whatever its steps want, takes one of the listed paths
 pub run_takes_path : (s : List ℤ) (t : LentFacts) (states : LentStates) (f : ℤ) (words : List ℤ) (b : List ℕ) (end n : ℕ)
-    → run_answer s t states f words b ≡ Walked end n → TookPath s t states f words b
+    → run_answer s t states f words b ≡ tallied end n → TookPath s t states f words b
 unfolding ran_path
 run_takes_path s t states f words b end n =
-    by_all (λ (a : Counted). a ≡ Walked end n → TookPath s t states f words b) (run_climb s t states f words (length b)) NoWalk _
+    by_all (λ (a : Counted). a ≡ tallied end n → TookPath s t states f words b) (run_climb s t states f words (length b)) Err _
     (λ r p e. let z : ◌≡◌ {A = ℕ} 0 1 = cc in absurd (omega arith))
     (λ h p e. took h p)
   where
-    took : (h : Header) → run_climb s t states f words (length b) ≡ At h → TookPath s t states f words b
+    took : (h : Header) → run_climb s t states f words (length b) ≡ Ok h → TookPath s t states f words b
     took h p =
         let w = climbed_at (opened s) (run_rungs s t states f words (length b)) refl p in
         let facts = assembled s h t in

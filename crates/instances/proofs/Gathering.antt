@@ -1,5 +1,6 @@
 -- The gathering pass, and what is gathered: one state for each entity.
 -- Assumes nothing.
+use Rattle.std.specs.Prelude.{Ok}
 use mathlib.Core.Path.{◌≡◌, sym, subst, ◌∙◌}
 use mathlib.Core.Bool.{Bool, true, false}
 use mathlib.Core.List.{List}
@@ -17,7 +18,6 @@ use Rattle.tables.proofs.Grown.{length_grown, grown_at}
 use Rattle.tables.proofs.Scans.{any_zero, any_more}
 use Rattle.signed.specs.Words.{num, eq_z}
 use Rattle.signed.proofs.Numbers.{num_of}
-use Rattle.answer.specs.declared.Status.TheVariants.{Done}
 use Rattle.layout.specs.declared.Header.{Header}
 use Rattle.records.specs.Accepted.{Accepted}
 use Rattle.records.specs.Entities.{states as state_count}
@@ -146,7 +146,7 @@ module _ (h : Header) (q : LentStates) {states : List ℤ} {found : List Bool} (
   found_is e l = g.hit e (omega (arith, long))
 
 -- where the records are good, each is among its entity's states
-pub states_in_lem : (s : List ℤ) (h : Header) (q : LentStates) → Accepted s h → records_fault s h q.records ≡ Done → StatesIn s h (gathered h q)
+pub states_in_lem : (s : List ℤ) (h : Header) (q : LentStates) → Accepted s h → records_fault s h q.records ≡ Ok tt → StatesIn s h (gathered h q)
 states_in_lem s h q a done = record { long = gathered_length h q; each = λ e l. rw (gathered_at h q e l) (inside e l) }
   where
     inside : (e : ℕ) → e < h.entities → num (held q e (count q.records)) < state_count s h e

@@ -1,5 +1,6 @@
 -- The lent records: refusal 8, and what holds where it is not given.
 -- Assumes nothing.
+use Rattle.std.specs.Prelude.{Ok, Err}
 use mathlib.Core.Path.{◌≡◌, sym, ◌∙◌}
 use mathlib.Core.Bool.{Bool, true, false, not, ◌||◌}
 use mathlib.Core.List.{List}
@@ -15,7 +16,6 @@ use Rattle.tables.proofs.Scanned.{fail_at, fail_none, all_pass}
 use Rattle.signed.specs.Words.{num}
 use Rattle.answer.specs.declared.Refusal.{Refusal}
 use Rattle.answer.specs.declared.Refusal.TheVariants.{State}
-use Rattle.answer.specs.declared.Status.TheVariants.{Done, Refused}
 use Rattle.answer.specs.Inner.{Every}
 use Rattle.answer.proofs.Distinct.{refused_done}
 use Rattle.layout.specs.declared.Header.{Header}
@@ -84,17 +84,17 @@ module _ (s : List ℤ) (h : Header) (rs : List ℤ) where
       record { here = omega arith; each = extend_one (λ (j : ℕ). good_record s h rs j ≡ true) i g.each (sym e ∙ not-false b p) }
 
   pub bad_record : {i : ℕ} {b : Bool} → Judged s h rs i → i < count rs → b ≡ good_record s h rs i → not b ≡ true
-      → Refused (State i) ≡ records_fault s h rs
+      → Err (State i) ≡ records_fault s h rs
   unfolding records_fault first_bad
   bad_record {i} {b} g l e p =
       rw (← fail_at (good_record s h rs) (count rs) i l g.each (sym e ∙ not-true b p), lt-ltb i (count rs) l)
 
-  pub none_bad : {i : ℕ} → Judged s h rs i → count rs ≤ i → Done ≡ records_fault s h rs
+  pub none_bad : {i : ℕ} → Judged s h rs i → count rs ≤ i → (Ok tt) ≡ records_fault s h rs
   unfolding records_fault first_bad
   none_bad {i} g l = rw (← fail_none (good_record s h rs) (count rs) i g.here l g.each, le-ltb i (count rs) l)
 
   -- where refusal 8 is not given, every record is good
-  pub good_records : records_fault s h rs ≡ Done → (i : ℕ) → i < count rs → good_record s h rs i ≡ true
+  pub good_records : records_fault s h rs ≡ Ok tt → (i : ℕ) → i < count rs → good_record s h rs i ≡ true
   unfolding records_fault first_bad
   good_records p = all_pass (good_record s h rs) (count rs) (none (dec_lt (first_bad s h rs) (count rs)))
     where
@@ -103,7 +103,7 @@ module _ (s : List ℤ) (h : Header) (rs : List ℤ) where
       none (yes l) = absurd (refused_done (rw (lt-ltb (first_bad s h rs) (count rs) l) at p))
 
   -- and where every record is good, it is not given
-  pub all_good : ((i : ℕ) → i < count rs → good_record s h rs i ≡ true) → records_fault s h rs ≡ Done
+  pub all_good : ((i : ℕ) → i < count rs → good_record s h rs i ≡ true) → records_fault s h rs ≡ Ok tt
   all_good g = sym (none_bad (record { here = omega arith; each = g }) (omega arith))
 
   -- refusal 8 is given at a record's number

@@ -1,5 +1,6 @@
 -- Records that are not refused rise by entity and instance, so an entity's named instance has one record.
 -- Assumes nothing.
+use Rattle.std.specs.Prelude.{Ok}
 use mathlib.Core.Path.{◌≡◌, refl, subst, ◌∙◌}
 use mathlib.Core.Bool.{true, ◌&&◌}
 use mathlib.Core.List.{List}
@@ -15,7 +16,6 @@ use Rattle.tables.proofs.Bools.{and_left, and_right, or_cases, true_false}
 use Rattle.tables.proofs.Scans.{below_suc}
 use Rattle.signed.proofs.Parts.{Lt, lt_true}
 use Rattle.signed.proofs.Order.{lt_le, lt_le_trans, lt_irrefl}
-use Rattle.answer.specs.declared.Status.TheVariants.{Done}
 use Rattle.layout.specs.declared.Header.{Header}
 use Rattle.instances.specs.Records.{LentStates, count, entity_at, instance_at, state_at, above, records_fault}
 use Rattle.instances.specs.Named.{names, held}
@@ -41,7 +41,7 @@ module _ (rs : List ℤ) where
   through i j k (inr p) (inl r) = inl (omega (arith, p.0))
   through i j k (inr p) (inr r) = inr (p.0 ∙ r.0, lt_le_trans p.1 (lt_le r.1))
 
-  module _ (s : List ℤ) (h : Header) (done : records_fault s h rs ≡ Done) where
+  module _ (s : List ℤ) (h : Header) (done : records_fault s h rs ≡ Ok tt) where
     next : (i : ℕ) → suc i < count rs → Above i (suc i)
     next i l =
         let z : suc i - 1 ≡ i = omega arith in
@@ -53,7 +53,7 @@ module _ (rs : List ℤ) where
     rising i (suc j) l m =
         ⊎_elim (λ k. through i j (suc j) (rising i j k (omega arith)) (next j m)) (λ e. rw e (next j m)) (below_suc i j l)
 
-module _ (s : List ℤ) (h : Header) (q : LentStates) (done : records_fault s h q.records ≡ Done) where
+module _ (s : List ℤ) (h : Header) (q : LentStates) (done : records_fault s h q.records ≡ Ok tt) where
   twice : (e i j : ℕ) → i < j → j < count q.records → names q e i ≡ true → names q e j ≡ true → ⊥
   twice e i j l m p r =
       ⊎_elim (λ a. omega (arith, names_entity q e i p, names_entity q e j r))

@@ -1,5 +1,6 @@
 -- Two calls that are lent the same records, and name the same instances of the entities that are touched.
 -- Assumes nothing.
+use Rattle.std.specs.Prelude.{Ok}
 use mathlib.Core.Path.{◌≡◌, refl, sym, ◌∙◌}
 use mathlib.Core.Bool.{Bool, true, false}
 use mathlib.Core.List.{List}
@@ -12,7 +13,6 @@ use lib.ListN.{length, get_or}
 use lib.Seq.{ext_get_or}
 use Rattle.tables.proofs.Bools.{bool_cases}
 use Rattle.tables.proofs.Scans.{any_same}
-use Rattle.answer.specs.declared.Status.TheVariants.{Done}
 use Rattle.layout.specs.declared.Header.{Header}
 use Rattle.instances.specs.Records.{lent_states, count, entity_at, state_at, records_fault}
 use Rattle.instances.specs.Named.{names, held, gathered, scattered, has}
@@ -37,7 +37,7 @@ module _ (rs a b : List ℤ) where
     has_same = any_same (names (lent_states rs a) e) (names (lent_states rs b) e) (count rs) (λ i l. names_same i)
 
   -- where the new states of touched entities are the same, and those of others what was gathered, the same records are left
-  module _ (s : List ℤ) (h : Header) (done : records_fault s h rs ≡ Done) (touched : ℕ → Bool)
+  module _ (s : List ℤ) (h : Header) (done : records_fault s h rs ≡ Ok tt) (touched : ℕ → Bool)
       (same : (n : ℕ) → touched n ≡ true → get_or a n (pos 0) ≡ get_or b n (pos 0)) (st su : List ℤ)
       (moved : (n : ℕ) → n < h.entities → touched n ≡ true → get_or st n (pos 0) ≡ get_or su n (pos 0))
       (stayed : (n : ℕ) → n < h.entities → touched n ≡ false → get_or st n (pos 0) ≡ get_or (gathered h (lent_states rs a)) n (pos 0))

@@ -1,5 +1,6 @@
 -- What is gathered and written back changes nothing; what is written is gathered again; good records stay good.
 -- Assumes nothing.
+use Rattle.std.specs.Prelude.{Ok}
 use mathlib.Core.Path.{◌≡◌, sym, ap, ◌∙◌}
 use mathlib.Core.Bool.{true}
 use mathlib.Core.List.{List}
@@ -12,7 +13,6 @@ use native.Mathlib.Omega.{arith}
 use native.Mathlib.Decide.{ℕ_discrete}
 use Rattle.tables.proofs.Bools.{bool_cases, true_false}
 use Rattle.tables.proofs.Scans.{any_at}
-use Rattle.answer.specs.declared.Status.TheVariants.{Done}
 use Rattle.layout.specs.declared.Header.{Header}
 use Rattle.operation.specs.Inner.{StatesIn}
 use Rattle.instances.specs.Records.{LentStates, lent_states, count, entity_at, state_at, above, records_fault}
@@ -42,7 +42,7 @@ module _ (q : LentStates) (st : List ℤ) where
       word j l (no x) = word_kept q st j (λ i m p e. x (omega (arith, e)))
 
 -- what is gathered, written back, changes nothing
-pub unchanged : (s : List ℤ) (h : Header) (q : LentStates) → records_fault s h q.records ≡ Done → scattered q (gathered h q) ≡ q.records
+pub unchanged : (s : List ℤ) (h : Header) (q : LentStates) → records_fault s h q.records ≡ Ok tt → scattered q (gathered h q) ≡ q.records
 unchanged s h q done =
     scattered_same q (gathered h q)
     (λ i l p. gathered_at h q (entity_at q.records i) (record_ok s h q.records i (good_records s h q.records done i l)).entity
@@ -66,8 +66,8 @@ gathered_again h q st e l p =
     new i m r = let z = names_entity q e i r in state_new q st i m (rw z r) ∙ ap (λ (k : ℕ). get_or st k (pos 0)) z
 
 -- where states that exist are written into good records, these are good again
-pub still_good : (s : List ℤ) (h : Header) (q : LentStates) (st : List ℤ) → records_fault s h q.records ≡ Done → StatesIn s h st
-    → records_fault s h (scattered q st) ≡ Done
+pub still_good : (s : List ℤ) (h : Header) (q : LentStates) (st : List ℤ) → records_fault s h q.records ≡ Ok tt → StatesIn s h st
+    → records_fault s h (scattered q st) ≡ Ok tt
 still_good s h q st done valid = all_good s h (scattered q st) (λ i l. ok_record s h (scattered q st) i (good i (omega (arith, count_kept q st))))
   where
     order : (i j : ℕ) → above (scattered q st) i j ≡ above q.records i j
@@ -86,7 +86,7 @@ still_good s h q st done valid = all_good s h (scattered q st) (λ i l. ok_recor
         }
 
 -- what holds of a state that stays, and of what is gathered of an entity and its new state, holds of every record's state before and after
-pub each_record : (s : List ℤ) (h : Header) (q : LentStates) → records_fault s h q.records ≡ Done → (st : List ℤ) (P : ℤ → ℤ → Type 0)
+pub each_record : (s : List ℤ) (h : Header) (q : LentStates) → records_fault s h q.records ≡ Ok tt → (st : List ℤ) (P : ℤ → ℤ → Type 0)
     → ((a : ℤ) → P a a) → (i : ℕ) → i < count q.records
     → (entity_at q.records i < h.entities
     → P (get_or (gathered h q) (entity_at q.records i) (pos 0)) (get_or st (entity_at q.records i) (pos 0)))

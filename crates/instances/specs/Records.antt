@@ -1,12 +1,11 @@
 -- 02, CR 7: "the lent states become records of entity, instance number, state", three words each; and refusals 4 and 8 of them.
 -- Assumes nothing.
-use Rattle.std.specs.Prelude.{ℕ, ◌+◌, ◌*◌, ◌-◌, ◌/◌, ◌%◌, ℤ, pos, length, get_or, Bool, cond, ◌&&◌, ◌||◌, List, leb, ltb, eqb}
+use Rattle.std.specs.Prelude.{ℕ, ◌+◌, ◌*◌, ◌-◌, ◌/◌, ◌%◌, ℤ, pos, length, get_or, Bool, cond, ◌&&◌, ◌||◌, List, leb, ltb, eqb, Ok, Err}
 use Rattle.std.specs.Int.Signed.{lt_z}
 use Rattle.tables.specs.Scan.{first_fail}
 use Rattle.signed.specs.Words.{num}
 use Rattle.answer.specs.declared.Refusal.TheVariants.{State}
-use Rattle.answer.specs.declared.Status.{Status}
-use Rattle.answer.specs.declared.Status.TheVariants.{Done, Refused}
+use Rattle.answer.specs.Answers.{Status}
 use Rattle.layout.specs.declared.Header.{Header}
 use Rattle.records.specs.Entities.{states as state_count}
 
@@ -53,4 +52,4 @@ first_bad s h rs = first_fail (good_record s h rs) 0 (count rs)
 
 -- "A record not above the one before it, or with an entity or state out of range, is refused 8 at the first such record"
 unfoldable pub records_fault : List ℤ → Header → List ℤ → Status
-records_fault s h rs = cond (ltb (first_bad s h rs) (count rs)) (Refused (State (first_bad s h rs))) Done
+records_fault s h rs = cond (ltb (first_bad s h rs) (count rs)) (Err (State (first_bad s h rs))) (Ok tt)

@@ -9,86 +9,80 @@ ghost use Rattle.instances.specs.Records.{lent_states, count, entity_at, instanc
 ghost use Rattle.instances.specs.Named.{scattered, covers};
 ghost use Rattle.instances.specs.Inner.{Gathered, placed};
 
-use answer::{Refusal, Status};
-use layout::{Header, Operation, place};
+use answer::Refusal;
+use layout::{Entity, Header, Operation, Sheet, place};
 use operation::{effect_word, effects_of};
-use signed::{less, num, same};
-use tables::{flag, word_entry};
-use words::number;
+use records::{Contract, states_of};
+use signed::{num, same};
+use tables::{entry, flag};
 
 // Whether the records are whole and not too many, and an instance number is lent for each entity.
+#[tactic(auto, unfolding(crate::specs::Records::states_lent))]
 pub fn states_lent(h: Header, rs: &[i64], is: &[i64]) -> bool
     ensures { result ≡ states_lent h (lent_states rs.now is.now) }
 {
     (rs.len() % 3 == 0) & (rs.len() / 3 <= 256) & (is.len() == h.entities)
 }
 
-// The words of a record.
-fn entity_at(rs: &[i64], i: usize) -> usize
-    requires { i < count rs.now }
-    ensures { result ≡ entity_at rs.now i }
-{
-    num(rs[3 * i])
+// A lent record.
+#[derive(Clone, Copy)]
+struct Instance {
+    entity: usize,
+    number: i64,
+    state: i64,
 }
 
-fn instance_at(rs: &[i64], i: usize) -> i64
-    requires { i < count rs.now }
-    ensures { result ≡ instance_at rs.now i }
-{
-    rs[3 * i + 1]
-}
-
-fn state_at(rs: &[i64], i: usize) -> i64
-    requires { i < count rs.now }
-    ensures { result ≡ state_at rs.now i }
-{
-    rs[3 * i + 2]
+impl Instance {
+    // Record i.
+    fn at(rs: &[i64], i: usize) -> Instance
+        requires { i < count rs.now }
+        ensures { (result.entity ≡ entity_at rs.now i) × (result.number ≡ instance_at rs.now i) × (result.state ≡ state_at rs.now i) }
+    {
+        Instance {
+            entity: num(rs[3 * i]),
+            number: rs[3 * i + 1],
+            state: rs[3 * i + 2],
+        }
+    }
 }
 
 // Whether record j is above record i.
+#[tactic(auto, unfolding(crate::specs::Records::above))]
 fn above(rs: &[i64], i: usize, j: usize) -> bool
     requires { (i < count rs.now) × (j < count rs.now) }
     ensures { result ≡ above rs.now i j }
 {
-    let d = entity_at(rs, i);
-    let e = entity_at(rs, j);
-    (d < e) | ((d == e) & less(instance_at(rs, i), instance_at(rs, j)))
+    let before = Instance::at(rs, i);
+    let r = Instance::at(rs, j);
+    (before.entity, before.number) < (r.entity, r.number)
 }
 
 // Whether a record's entity and state are in range, and it is above the one before it.
-fn good_record(s: &[i64], h: Header, rs: &[i64], i: usize) -> bool
-    requires sized { Sized s.now h }
-    requires i_bound { i < count rs.now }
-    ensures { result ≡ good_record s.now h rs.now i }
+#[tactic(auto, unfolding(crate::specs::Records::good_record))]
+fn good_record(s: &Sheet, rs: &[i64], i: usize) -> bool
+    requires { i < count rs.now }
+    ensures { result ≡ good_record s.now.words.now s.now.header rs.now i }
 {
-    let e = entity_at(rs, i);
-    if h.entities <= e {
+    let r = Instance::at(rs, i);
+    if s.header.entities <= r.entity {
         return false;
     }
-    let states = number(s, h.facts + h.nodes + h.rules + e, place::ENTITY_STATES);
-    if states <= num(state_at(rs, i)) {
+    if states_of(s, Entity(r.entity)) <= num(r.state) {
         return false;
     }
-    if i == 0 {
-        return true;
-    }
-    above(rs, i - 1, i)
+    i == 0 || above(rs, i - 1, i)
 }
 
 // Refusal 8, or Done.
-pub fn judge_records(s: &[i64], h: Header, rs: &[i64]) -> Status
-    requires { Sized s.now h }
-    ensures { result ≡ records_fault s.now h rs.now }
+pub fn judge_records(s: &Sheet, rs: &[i64]) -> Result<(), Refusal>
+    ensures { result ≡ records_fault s.now.words.now s.now.header rs.now }
 {
-    let n = rs.len() / 3;
-    let mut i = 0;
-    while i < n {
-        if !good_record(s, h, rs, i) {
-            return Status::Refused(Refusal::State(i));
+    for i in 0..rs.len() / 3 {
+        if !good_record(s, rs, i) {
+            return Err(Refusal::State(i));
         }
-        i += 1;
     }
-    Status::Done
+    Ok(())
 }
 
 // One record of the gathering pass.
@@ -97,11 +91,11 @@ fn take(rs: &[i64], is: &[i64], i: usize, states: &mut [i64], found: &mut [bool]
     requires gathered { Gathered (lent_states rs.now is.now) i states.old found.old }
     ensures { Gathered (lent_states rs.now is.now) (i + 1) states.new found.new }
 {
-    let e = entity_at(rs, i);
+    let r = Instance::at(rs, i);
+    let e = r.entity;
     if e < is.len() {
-        if same(instance_at(rs, i), is[e]) {
-            let state = state_at(rs, i);
-            states[e] = state;
+        if same(r.number, is[e]) {
+            states[e] = r.state;
             found[e] = true;
         }
     }
@@ -112,28 +106,21 @@ pub fn gather(rs: &[i64], is: &[i64], states: &mut [i64], found: &mut [bool])
     requires { Gathered (lent_states rs.now is.now) 0 states.old found.old }
     ensures { Gathered (lent_states rs.now is.now) (count rs.now) states.new found.new }
 {
-    let n = rs.len() / 3;
-    let mut i = 0;
-    while i < n {
+    for i in 0..rs.len() / 3 {
         take(rs, is, i, states, found);
-        i += 1;
     }
 }
 
 // Whether each entity that an effect of the operation names is flagged.
-pub fn covers(s: &[i64], h: Header, found: &[bool], o: Operation) -> bool
-    requires accepted { Accepted s.now h }
-    requires o_lt_operations { o.0 < h.operations }
-    ensures { result ≡ covers s.now h (λ e. get_or found.now e false) o.0 }
+pub fn covers(s: &Contract, found: &[bool], o: Operation) -> bool
+    requires { o.0 < s.now.sheet.header.operations }
+    ensures { result ≡ covers s.now.sheet.words.now s.now.sheet.header (λ e. get_or found.now e false) o.0 }
 {
-    let effects = effects_of(s, h, o);
-    let end = effects.end;
-    let mut e = effects.first;
-    while e < end {
-        if !flag(found, effect_word(s, h, e, place::EFFECT_ENTITY)) {
+    let effects = effects_of(s, o);
+    for e in effects.first..effects.end {
+        if !flag(found, effect_word(&s.sheet, e, place::EFFECT_ENTITY)) {
             return false;
         }
-        e += 1;
     }
     true
 }
@@ -143,10 +130,9 @@ fn put(rs: &mut [i64], is: &[i64], states: &[i64], i: usize)
     requires { i < count rs.old }
     ensures { rs.new ≡ placed (lent_states rs.old is.now) states.now i }
 {
-    let e = entity_at(rs, i);
-    if same(instance_at(rs, i), word_entry(is, e)) {
-        let state = word_entry(states, e);
-        rs[3 * i + 2] = state;
+    let r = Instance::at(rs, i);
+    if same(r.number, entry(is, r.entity, 0)) {
+        rs[3 * i + 2] = entry(states, r.entity, 0);
     }
 }
 
@@ -154,10 +140,7 @@ fn put(rs: &mut [i64], is: &[i64], states: &[i64], i: usize)
 pub fn scatter(rs: &mut [i64], is: &[i64], states: &[i64])
     ensures { rs.new ≡ scattered (lent_states rs.old is.now) states.now }
 {
-    let n = rs.len() / 3;
-    let mut i = 0;
-    while i < n {
+    for i in 0..rs.len() / 3 {
         put(rs, is, states, i);
-        i += 1;
     }
 }

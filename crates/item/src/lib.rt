@@ -1,33 +1,22 @@
 // A type with a range of values, and the range of each operator from those of its operands.
 #![tactic(auto)]
 
-ghost use Rattle.std.specs.Prelude.{◌≡◌, true, cond, pos, ◌*ℤ◌};
+ghost use Rattle.std.specs.Prelude.{◌≡◌, true, pos, ◌*ℤ◌};
 ghost use Rattle.signed.specs.Words.{bounded};
+ghost use Rattle.signed.specs.Compare.{operator_number};
 ghost use Rattle.item.specs.Units as units;
 ghost use Rattle.item.specs.Items as items;
 ghost use Rattle.item.specs.Inner.{Small};
 
-use signed::{bounded, can_fail, can_hold, larger, minus, plus, smaller, times, to_word};
+use signed::{Comparison, bounded, minus, plus, times, to_word};
 
-// A type by its number, and the values from `low` to `high`, both included.
+// A type by its number, and the values from `low` to `high`, both included. The number stays one, since the definitions count in it: an Enum's
+// set, a currency and a unit are offsets in it, and of two units the greater number is the smaller unit.
 #[derive(Clone, Copy)]
 pub struct Item {
     pub sort: usize,
     pub low: i64,
     pub high: i64,
-}
-
-pub fn span(sort: usize, low: i64, high: i64) -> Item
-    ensures { result ≡ items.span sort low high }
-{
-    Item { sort, low, high }
-}
-
-// Whether both ends lie in −M..M.
-pub fn small(x: Item) -> bool
-    ensures { result ≡ items.small x }
-{
-    bounded(x.low) & bounded(x.high)
 }
 
 // n where the way from type u to type v leads past type k, else 1.
@@ -56,91 +45,134 @@ pub fn converted(a: usize, b: usize, v: i64) -> i64
     }
 }
 
-fn choose(b: bool, x: i64, y: i64) -> i64
-    ensures { result ≡ cond b x y }
-{
-    if b { x } else { y }
-}
-
-pub fn sum(x: Item, y: Item) -> Item
-    requires { Small x × Small y }
-    ensures { result ≡ items.sum x y }
-{
-    span(x.sort, plus(x.low, y.low), plus(x.high, y.high))
-}
-
-pub fn difference(x: Item, y: Item) -> Item
-    requires { Small x × Small y }
-    ensures { result ≡ items.difference x y }
-{
-    span(x.sort, minus(x.low, y.high), minus(x.high, y.low))
-}
-
 // The range from a×n to b×n.
 fn scaled(sort: usize, a: i64, b: i64, n: i64) -> Item
     requires { (bounded a ≡ true) × (bounded b ≡ true) × (bounded n ≡ true) }
     ensures { result ≡ items.span sort (a *ℤ n) (b *ℤ n) }
 {
-    span(sort, times(a, n), times(b, n))
-}
-
-// x, a duration, in the unit of type t.
-fn in_unit(x: Item, t: usize) -> Item
-    requires { Small x }
-    ensures { result ≡ items.span t (x.low *ℤ pos (units.factor x.sort t)) (x.high *ℤ pos (units.factor x.sort t)) }
-{
-    scaled(t, x.low, x.high, to_word(factor(x.sort, t)))
-}
-
-// x beside y, each of two durations being taken to the smaller unit.
-pub fn align(x: Item, y: Item) -> Item
-    requires { Small x }
-    ensures { result ≡ items.align x y }
-{
-    if (258 <= x.sort) & (x.sort < y.sort) {
-        in_unit(x, y.sort)
-    } else {
-        x
+    Item {
+        sort,
+        low: times(a, n),
+        high: times(b, n),
     }
 }
 
-pub fn multiple(n: i64, x: Item) -> Item
-    requires { (bounded n ≡ true) × Small x }
-    ensures { result ≡ items.multiple n x }
-{
-    if n < 0 {
-        scaled(x.sort, x.high, x.low, n)
-    } else {
-        scaled(x.sort, x.low, x.high, n)
+impl Item {
+    // Where there is none.
+    pub const NONE: Item = Item {
+        sort: 0,
+        low: 0,
+        high: 0,
+    };
+
+    // A truth value, which may be either.
+    pub const TRUTH: Item = Item {
+        sort: 0,
+        low: 0,
+        high: 1,
+    };
+
+    // Whether both ends lie in −M..M.
+    pub fn small(self) -> bool
+        ensures { result ≡ items.small self }
+    {
+        bounded(self.low) & bounded(self.high)
     }
-}
 
-pub fn compared(op: usize, x: Item, y: Item) -> Item
-    requires { Small x × Small y }
-    ensures { result ≡ items.compared op x y }
-{
-    let fails = can_fail(op, x.low, x.high, y.low, y.high);
-    let holds = can_hold(op, x.low, x.high, y.low, y.high);
-    span(0, choose(fails, 0, 1), choose(holds, 1, 0))
-}
+    pub fn sum(self, y: Item) -> Item
+        requires { Small self × Small y }
+        ensures { result ≡ items.sum self y }
+    {
+        Item {
+            sort: self.sort,
+            low: plus(self.low, y.low),
+            high: plus(self.high, y.high),
+        }
+    }
 
-pub fn both(x: Item, y: Item) -> Item
-    requires { Small x × Small y }
-    ensures { result ≡ items.both x y }
-{
-    span(0, smaller(x.low, y.low), smaller(x.high, y.high))
-}
+    pub fn difference(self, y: Item) -> Item
+        requires { Small self × Small y }
+        ensures { result ≡ items.difference self y }
+    {
+        Item {
+            sort: self.sort,
+            low: minus(self.low, y.high),
+            high: minus(self.high, y.low),
+        }
+    }
 
-pub fn either(x: Item, y: Item) -> Item
-    requires { Small x × Small y }
-    ensures { result ≡ items.either x y }
-{
-    span(0, larger(x.low, y.low), larger(x.high, y.high))
-}
+    // This, a duration, in the unit of type t.
+    fn in_unit(self, t: usize) -> Item
+        requires { Small self }
+        ensures { result ≡ items.span t (self.low *ℤ pos (units.factor self.sort t)) (self.high *ℤ pos (units.factor self.sort t)) }
+    {
+        scaled(t, self.low, self.high, to_word(factor(self.sort, t)))
+    }
 
-pub fn negation(x: Item) -> Item
-    requires { Small x }
-    ensures { result ≡ items.negation x }
-{
-    span(0, minus(1, x.high), minus(1, x.low))
+    // This beside y, each of two durations being taken to the smaller unit.
+    pub fn align(self, y: Item) -> Item
+        requires { Small self }
+        ensures { result ≡ items.align self y }
+    {
+        let larger = (258 <= self.sort) & (self.sort < y.sort);
+        if larger { self.in_unit(y.sort) } else { self }
+    }
+
+    pub fn multiple(self, n: i64) -> Item
+        requires { (bounded n ≡ true) × Small self }
+        ensures { result ≡ items.multiple n self }
+    {
+        let turned = n < 0;
+        if turned {
+            scaled(self.sort, self.high, self.low, n)
+        } else {
+            scaled(self.sort, self.low, self.high, n)
+        }
+    }
+
+    pub fn compared(self, op: Comparison, y: Item) -> Item
+        requires { Small self × Small y }
+        ensures { result ≡ items.compared (operator_number op) self y }
+    {
+        let fails = op.can_fail(self.low, self.high, y.low, y.high);
+        let holds = op.can_hold(self.low, self.high, y.low, y.high);
+        Item {
+            sort: 0,
+            low: i64::from(!fails),
+            high: i64::from(holds),
+        }
+    }
+
+    pub fn both(self, y: Item) -> Item
+        requires { Small self × Small y }
+        ensures { result ≡ items.both self y }
+    {
+        Item {
+            sort: 0,
+            low: self.low.min(y.low),
+            high: self.high.min(y.high),
+        }
+    }
+
+    pub fn either(self, y: Item) -> Item
+        requires { Small self × Small y }
+        ensures { result ≡ items.either self y }
+    {
+        Item {
+            sort: 0,
+            low: self.low.max(y.low),
+            high: self.high.max(y.high),
+        }
+    }
+
+    pub fn negation(self) -> Item
+        requires { Small self }
+        ensures { result ≡ items.negation self }
+    {
+        Item {
+            sort: 0,
+            low: minus(1, self.high),
+            high: minus(1, self.low),
+        }
+    }
 }

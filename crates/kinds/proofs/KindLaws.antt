@@ -10,8 +10,11 @@ use Rattle.tables.specs.Lists.{all_of}
 use Rattle.tables.proofs.Bools.{true_false, and_left}
 use Rattle.signed.specs.Words.{eq_z, num}
 use Rattle.signed.proofs.Parts.{eq_true}
-use Rattle.words.specs.declared.Words.{Words}
+use Rattle.words.specs.declared.Record.{Record}
 use Rattle.node.specs.declared.Given.{Given}
+use Rattle.node.specs.declared.Kind.{Kind}
+use Rattle.node.specs.declared.Kind.TheVariants.{IntLiteral, BoolLiteral, EnumLiteral, Fact, Sum, Difference, Product, Comparison, Present, And, Or, Not, MoneyLiteral, DurationLiteral, ForAll, Exists, Length, Element}
+use Rattle.node.specs.Kinds.{kind_number}
 use Rattle.node.specs.FactValues.{FactValue}
 use Rattle.node.specs.Rows.{Row, unknown, rows, row_of, int_literal, bool_literal, enum_literal, fact_named, sums, differences, product, comparison, present, conjunction, disjunction, negated, money_literal, duration_literal, for_all, exists, list_length, list_element}
 use Rattle.node.specs.Judged.{seen}
@@ -36,7 +39,7 @@ every Q p u k = each_at Q rows k p u
 
 abbrev Decided : Row → Type 0
 Decided r =
-    (w : Words) (facts : List FactValue) (verdicts : List ℤ) (e x y : ℤ) (body : ℤ → ℤ) → r.decides x ≡ true
+    (w : Record ℤ) (facts : List FactValue) (verdicts : List ℤ) (e x y : ℤ) (body : ℤ → ℤ) → r.decides x ≡ true
     → r.value (seen w facts verdicts e x y body) ≡ x
 
 and_decided : Decided conjunction
@@ -85,7 +88,7 @@ decided_bool =
 -- two lists of verdicts that agree where P says so give one value, if P says so of each rule that is cited
 abbrev Cited : Row → Type 0
 Cited r =
-    (P : ℕ → Bool) (w : Words) (facts : List FactValue) (u v : List ℤ) (e x y : ℤ) (body : ℤ → ℤ) → all_of P (r.cites w) ≡ true
+    (P : ℕ → Bool) (w : Record ℤ) (facts : List FactValue) (u v : List ℤ) (e x y : ℤ) (body : ℤ → ℤ) → all_of P (r.cites w) ≡ true
     → ((c : ℕ) → P c ≡ true → get_or u c (pos 0) ≡ get_or v c (pos 0))
     → r.value (seen w facts u e x y body) ≡ r.value (seen w facts v e x y body)
 
@@ -105,24 +108,23 @@ cited =
 
 -- ---- only "and" and "or" are decided
 
-pub undecided : (k : ℕ) → (k ≡ 9 → ⊥) → (k ≡ 10 → ⊥) → (x : ℤ) → (row_of k).decides x ≡ false
+pub undecided : (k : Kind) → (k ≡ And → ⊥) → (k ≡ Or → ⊥) → (x : ℤ) → (row_of (kind_number k)).decides x ≡ false
 unfolding row_of
-undecided zero d e x = refl
-undecided (suc zero) d e x = refl
-undecided (suc (suc zero)) d e x = refl
-undecided (suc (suc (suc zero))) d e x = refl
-undecided (suc (suc (suc (suc zero)))) d e x = refl
-undecided (suc (suc (suc (suc (suc zero))))) d e x = refl
-undecided (suc (suc (suc (suc (suc (suc zero)))))) d e x = refl
-undecided (suc (suc (suc (suc (suc (suc (suc zero))))))) d e x = refl
-undecided (suc (suc (suc (suc (suc (suc (suc (suc zero)))))))) d e x = refl
-undecided (suc (suc (suc (suc (suc (suc (suc (suc (suc zero))))))))) d e x = absurd (d refl)
-undecided (suc (suc (suc (suc (suc (suc (suc (suc (suc (suc zero)))))))))) d e x = absurd (e refl)
-undecided (suc (suc (suc (suc (suc (suc (suc (suc (suc (suc (suc zero))))))))))) d e x = refl
-undecided (suc (suc (suc (suc (suc (suc (suc (suc (suc (suc (suc (suc zero)))))))))))) d e x = refl
-undecided (suc (suc (suc (suc (suc (suc (suc (suc (suc (suc (suc (suc (suc zero))))))))))))) d e x = refl
-undecided (suc (suc (suc (suc (suc (suc (suc (suc (suc (suc (suc (suc (suc (suc zero)))))))))))))) d e x = refl
-undecided (suc (suc (suc (suc (suc (suc (suc (suc (suc (suc (suc (suc (suc (suc (suc zero))))))))))))))) d e x = refl
-undecided (suc (suc (suc (suc (suc (suc (suc (suc (suc (suc (suc (suc (suc (suc (suc (suc zero)))))))))))))))) d e x = refl
-undecided (suc (suc (suc (suc (suc (suc (suc (suc (suc (suc (suc (suc (suc (suc (suc (suc (suc zero))))))))))))))))) d e x = refl
-undecided (suc (suc (suc (suc (suc (suc (suc (suc (suc (suc (suc (suc (suc (suc (suc (suc (suc (suc k)))))))))))))))))) d e x = refl
+undecided IntLiteral d e x = refl
+undecided BoolLiteral d e x = refl
+undecided EnumLiteral d e x = refl
+undecided Fact d e x = refl
+undecided Sum d e x = refl
+undecided Difference d e x = refl
+undecided Product d e x = refl
+undecided Comparison d e x = refl
+undecided Present d e x = refl
+undecided And d e x = absurd (d refl)
+undecided Or d e x = absurd (e refl)
+undecided Not d e x = refl
+undecided MoneyLiteral d e x = refl
+undecided DurationLiteral d e x = refl
+undecided ForAll d e x = refl
+undecided Exists d e x = refl
+undecided Length d e x = refl
+undecided Element d e x = refl

@@ -18,7 +18,7 @@ use Rattle.signed.proofs.Parts.{P, N}
 use Rattle.signed.proofs.Bounds.{read_small}
 use Rattle.signed.proofs.Fit.{fits_size}
 use Rattle.signed.proofs.Scaled.{holds_scaled, plus_scaled, minus_scaled}
-use Rattle.words.specs.declared.Words.{Words}
+use Rattle.words.specs.declared.Record.{Record}
 use Rattle.item.specs.Sorts.{is_number}
 use Rattle.item.specs.Units.{factor, shared, converted}
 use Rattle.item.proofs.Units.{factor_least, shared_low, converted_low, converted_on, converted_size, converted_most}
@@ -27,6 +27,7 @@ use Rattle.node.specs.declared.Given.{Given}
 use Rattle.node.specs.FactValues.{FactValue}
 use Rattle.node.specs.Rows.{Row, row_of, bit, is_true, sums, differences, product, comparison, conjunction, disjunction, negated}
 use Rattle.node.specs.Judged.{seen}
+use Rattle.node.proofs.Judged.{row_past}
 use Rattle.kinds.specs.Inner.{leaf_of, seconds_from, Wide}
 use Rattle.kinds.proofs.KindLaws.{end, ◌▹◌, every, decided, decided_bool}
 
@@ -165,21 +166,27 @@ unfolding seconds_from
 seconds_from_lem k = settled k
 
 -- the value as it stands, where the node is no duration or has children
-pub settle : {r : ℤ} (k : ℕ) (w : Words) (f : ℕ) (facts : List FactValue) (verdicts : List ℤ) (e x y : ℤ) (body : ℤ → ℤ)
+pub settle : {r : ℤ} (k : ℕ) (w : Record ℤ) (f : ℕ) (facts : List FactValue) (verdicts : List ℤ) (e x y : ℤ) (body : ℤ → ℤ)
     → ((row_of k).gives (leaf_of w f)).sort < 258 → r ≡ (row_of k).value (seen w facts verdicts e x y body)
     → r ≡ seconds_from k w f facts verdicts e x y body
 unfolding seconds_from
 settle k w f facts verdicts e x y b l p = p ∙ sym (converted_low _ 261 _ l)
 
+-- a node of an unknown kind comes to 0
+pub unknown_seconds : (k : ℕ) → 17 < k → (w : Record ℤ) (f : ℕ) (facts : List FactValue) (verdicts : List ℤ) (e x y : ℤ) (body : ℤ → ℤ)
+    → pos 0 ≡ seconds_from k w f facts verdicts e x y body
+unknown_seconds k h w f facts verdicts e x y b =
+    settle k w f facts verdicts e x y b (rw (row_past k h) (omega arith)) (rw (row_past k h))
+
 -- where the first child decides, it is the value
-pub decided_seconds : (k : ℕ) (w : Words) (f : ℕ) (facts : List FactValue) (verdicts : List ℤ) (e x y : ℤ) (body : ℤ → ℤ)
+pub decided_seconds : (k : ℕ) (w : Record ℤ) (f : ℕ) (facts : List FactValue) (verdicts : List ℤ) (e x y : ℤ) (body : ℤ → ℤ)
     → (row_of k).decides x ≡ true → seconds_from k w f facts verdicts e x y body ≡ x
 unfolding seconds_from
 decided_seconds k w f facts verdicts e x y b d =
     converted_low _ 261 _ (omega (arith, decided_bool k (leaf_of w f) x d)) ∙ decided k w facts verdicts e x y b d
 
 -- what a node has to work out is no larger
-pub value_wide : (k : ℕ) (w : Words) (f : ℕ) (facts : List FactValue) (verdicts : List ℤ) (e x y : ℤ) (body : ℤ → ℤ)
+pub value_wide : (k : ℕ) (w : Record ℤ) (f : ℕ) (facts : List FactValue) (verdicts : List ℤ) (e x y : ℤ) (body : ℤ → ℤ)
     → Wide (seconds_from k w f facts verdicts e x y body) → Wide ((row_of k).value (seen w facts verdicts e x y body))
 unfolding seconds_from
 value_wide k w f facts verdicts e x y b h =

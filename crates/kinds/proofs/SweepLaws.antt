@@ -14,7 +14,7 @@ use Rattle.tables.specs.Lists.{words_from}
 use Rattle.tables.proofs.Bools.{true_false, or_cases, or_false_left, or_false_right, not_flip}
 use Rattle.tables.proofs.Elements.{Rest, all_more, all_stops, all_ends, any_more, any_stops, any_ends}
 use Rattle.signed.specs.Words.{num}
-use Rattle.words.specs.declared.Words.{Words}
+use Rattle.words.specs.declared.Record.{Record}
 use Rattle.node.specs.FactValues.{FactValue, no_value, elements_in}
 use Rattle.node.specs.Rows.{row_of, bit, is_true}
 use Rattle.node.specs.Judged.{seen}
@@ -28,7 +28,7 @@ pub is_binder : (k : ℕ) → is_quantifier k ≡ true → (k ≡ 14) ⊎ (k ≡
 is_binder k e = ⊎_elim (λ z. inl (eqb-true k 14 z)) (λ z. inr (eqb-true k 15 z)) (or_cases (eqb k 14) (eqb k 15) e)
 
 -- its value is the test of its body over the list's elements
-pub quantified_value : (k : ℕ) → (k ≡ 14) ⊎ (k ≡ 15) → (w : Words) (facts : List FactValue) (verdicts : List ℤ) (e x y : ℤ) (body : ℤ → ℤ)
+pub quantified_value : (k : ℕ) → (k ≡ 14) ⊎ (k ≡ 15) → (w : Record ℤ) (facts : List FactValue) (verdicts : List ℤ) (e x y : ℤ) (body : ℤ → ℤ)
     → (row_of k).value (seen w facts verdicts e x y body)
     ≡ bit (over_of (eqb k 15) (λ z. is_true (body z)) (elements_in (get_or facts (num w.w1) no_value)))
 unfolding row_of over_of
@@ -36,7 +36,7 @@ quantified_value k (inl q) w facts verdicts e x y body = rw q
 quantified_value k (inr q) w facts verdicts e x y body = rw q
 
 -- no other kind is over a list
-pub unbound : (k : ℕ) → is_quantifier k ≡ false → (w : Words) → (row_of k).binds w ≡ []
+pub unbound : (k : ℕ) → is_quantifier k ≡ false → (w : Record ℤ) → (row_of k).binds w ≡ []
 unbound k e w = go (ℕ_discrete k 17)
   where
     go : Dec (k ≡ 17) → (row_of k).binds w ≡ []
@@ -44,7 +44,7 @@ unbound k e w = go (ℕ_discrete k 17)
     go (no d) = (unscoped k (eqb-false k 14 (or_false_left (eqb k 14) (eqb k 15) e)) (eqb-false k 15 (or_false_right (eqb k 14) (eqb k 15) e)) d w).1
 
 -- a kind that is over no list is no quantifier
-pub unquantified : (k : ℕ) (w : Words) → (row_of k).binds w ≡ [] → (k ≡ 14 → ⊥) × (k ≡ 15 → ⊥)
+pub unquantified : (k : ℕ) (w : Record ℤ) → (row_of k).binds w ≡ [] → (k ≡ 14 → ⊥) × (k ≡ 15 → ⊥)
 unquantified k w p = (λ e. no_cons _ _ (sym (binder k (inl e) w).0 ∙ p), λ e. no_cons _ _ (sym (binder k (inr e) w).0 ∙ p))
 
 -- ---- a loop over the elements

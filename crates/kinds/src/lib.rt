@@ -1,84 +1,49 @@
-// One node by its kind, apart from the checker's scan: its value and its range from those of its children, one arm for each of the
-// kinds 0 to 17, as its row in node/specs/Rows.antt says.
+// One node by its kind, apart from the checker's scan: its value and its range from those of its children, as the kind's row in
+// node/specs/Rows.antt says.
 #![tactic(auto)]
 
-ghost use Rattle.std.specs.Prelude.{◌≡◌, true, false, not, ◌&&◌, ◌||◌, ℕ, ◌+◌, ◌%◌, ◌≤◌, ℤ, pos, ◌+ℤ◌, ◌-ℤ◌, ◌*ℤ◌, List, get_or};
+ghost use Rattle.std.specs.Prelude.{◌≡◌, true, false, not, ◌&&◌, ◌||◌, ℕ, ◌+◌, ◌%◌, ◌≤◌, ℤ, pos, ◌+ℤ◌, ◌-ℤ◌, ◌*ℤ◌, List, get_or, eqb};
 ghost use Rattle.signed.specs.Words.{num as word_number};
 ghost use Rattle.signed.specs.Compare.{holds as comparison};
-ghost use Rattle.item.specs.Items.{span as item_span};
+ghost use Rattle.item.specs.Items.{span, compared};
+ghost use Rattle.item.specs.Inner.{Small};
+ghost use Rattle.node.specs.Kinds.{kind_number};
 ghost use Rattle.node.specs.FactValues.{FactValue};
 ghost use Rattle.node.specs.Rows.{bit, is_true, row_of};
 ghost use Rattle.node.specs.Judged.{SmallKids};
 ghost use Rattle.kinds.specs.Inner.{seconds_from, Wide, Leaf, Reads, Joint, is_quantifier, settles};
 
-use item::{Item, both, compared, converted, difference, either, multiple, negation, span, sum};
-use node::Given;
-use signed::{holds, num, same, to_word};
-use tables::word_entry;
-use words::Words;
-
-// Sums, differences and products that are known to fit a word.
-fn add(a: i64, b: i64) -> i64
-    requires { Wide (a +ℤ b) }
-    ensures { result ≡ a +ℤ b }
-{
-    a + b
-}
-
-fn subtract(a: i64, b: i64) -> i64
-    requires { Wide (a -ℤ b) }
-    ensures { result ≡ a -ℤ b }
-{
-    a - b
-}
-
-fn multiply(a: i64, b: i64) -> i64
-    requires { Wide (a *ℤ b) }
-    ensures { result ≡ a *ℤ b }
-{
-    a * b
-}
+use item::{Item, converted};
+use node::{Given, Kind};
+use signed::{Comparison, num, same, to_word};
+use tables::entry;
+use words::Record;
 
 // A truth value, as a word.
 pub fn bit(b: bool) -> i64
     ensures { result ≡ bit b }
 {
-    if b { 1 } else { 0 }
+    i64::from(b)
 }
 
-fn compare(w: Words, x: i64, y: i64) -> i64
+fn compare(w: Record<i64>, x: i64, y: i64) -> i64
     ensures { result ≡ bit (comparison (word_number w.w1) x y) }
 {
-    bit(holds(num(w.w1), x, y))
-}
-
-fn both_true(x: i64, y: i64) -> i64
-    ensures { result ≡ bit (is_true x && is_true y) }
-{
-    bit(same(x, 1) & same(y, 1))
-}
-
-fn either_true(x: i64, y: i64) -> i64
-    ensures { result ≡ bit (is_true x || is_true y) }
-{
-    bit(same(x, 1) | same(y, 1))
-}
-
-fn not_true(x: i64) -> i64
-    ensures { result ≡ bit (not (is_true x)) }
-{
-    bit(!same(x, 1))
+    match Comparison::try_from(num(w.w1)) {
+        Ok(op) => bit(op.holds(x, y)),
+        Err(_) => 0,
+    }
 }
 
 // The fact or the verdict that word 1 names.
-fn named(t: &[i64], w: Words) -> i64
+fn named(t: &[i64], w: Record<i64>) -> i64
     ensures { result ≡ get_or t.now (word_number w.w1) (pos 0) }
 {
-    word_entry(t, num(w.w1))
+    entry(t, num(w.w1), 0)
 }
 
 // The type of a literal: t and what word 2 adds.
-fn literal_sort(w: Words, t: usize) -> usize
+fn literal_sort(w: Record<i64>, t: usize) -> usize
     requires { (t ≤ 258) × (word_number w.w2 ≤ 127) }
     ensures { result ≡ t + word_number w.w2 }
 {
@@ -92,121 +57,135 @@ pub fn count_in(word: i64) -> usize
     num(word) % 128
 }
 
-// The value of a node of kind number k that has no children, a duration in seconds. `words` has a word for each fact: its value or, of a list, one
-// that tells its length. `fact` is the type of the fact that the node names, which is read where k is 3; the current element stands at place `at`
-// of the lent lists. Apart from the others, for speed: only here is anything converted.
+// The value of a node that has no children, a duration in seconds. `words` has a word for each fact: its value or, of a list, one that tells its
+// length. `fact` is the type of the fact that the node names, which is read where it reads the fact's value; the current element stands at place
+// `at` of the lent lists. Apart from the others, for speed: only here is anything converted.
 pub fn leaf_from(
-    k: usize,
-    w: Words,
+    k: Kind,
+    w: Record<i64>,
     fact: usize,
     words: &[i64],
     lists: &[i64],
     verdicts: &[i64],
     at: usize,
 ) -> i64
-    requires { Leaf k w words.now }
-    ensures { (facts : List FactValue) (f : ℕ) (body : ℤ → ℤ) → (k ≡ 3 → fact ≡ f) → Reads k w words.now facts f → result ≡ seconds_from k w f facts verdicts.now (get_or lists.now at (pos 0)) (pos 0) (pos 0) body }
+    requires { Leaf (kind_number k) w words.now }
+    ensures { (facts : List FactValue) (f : ℕ) (body : ℤ → ℤ) → (kind_number k ≡ 3 → fact ≡ f) → Reads (kind_number k) w words.now facts f → result ≡ seconds_from (kind_number k) w f facts verdicts.now (get_or lists.now at (pos 0)) (pos 0) (pos 0) body }
 {
     match k {
-        0 => w.w1,
-        1 => w.w1,
-        2 => w.w1,
-        3 => converted(fact, 261, named(words, w)),
-        4..=7 => 0,
-        8 => named(verdicts, w),
-        9..=11 => 0,
-        12 => w.w1,
-        13 => converted(literal_sort(w, 258), 261, w.w1),
-        14..=15 => 0,
-        16 => to_word(count_in(named(words, w))),
-        17 => word_entry(lists, at),
-        18.. => 0,
+        Kind::IntLiteral | Kind::BoolLiteral | Kind::EnumLiteral | Kind::MoneyLiteral => w.w1,
+        Kind::Fact => converted(fact, 261, named(words, w)),
+        Kind::Present => named(verdicts, w),
+        Kind::DurationLiteral => converted(literal_sort(w, 258), 261, w.w1),
+        Kind::Length => to_word(count_in(named(words, w))),
+        Kind::Element => entry(lists, at, 0),
+        _ => 0,
     }
 }
 
-// The value of a node of kind number k that has children and is no quantifier, from theirs, each duration in seconds.
-pub fn joint_from(k: usize, w: Words, x: i64, y: i64) -> i64
-    requires { Joint k w x y }
-    ensures { (f : ℕ) (facts : List FactValue) (verdicts : List ℤ) (e : ℤ) (body : ℤ → ℤ) → result ≡ seconds_from k w f facts verdicts e x y body }
+// The value of a node that has children and is no quantifier, from theirs, each duration in seconds.
+pub fn joint_from(k: Kind, w: Record<i64>, x: i64, y: i64) -> i64
+    requires { Joint (kind_number k) w x y }
+    ensures { (f : ℕ) (facts : List FactValue) (verdicts : List ℤ) (e : ℤ) (body : ℤ → ℤ) → result ≡ seconds_from (kind_number k) w f facts verdicts e x y body }
 {
     match k {
-        0..=3 => 0,
-        4 => add(x, y),
-        5 => subtract(x, y),
-        6 => multiply(x, w.w2),
-        7 => compare(w, x, y),
-        8 => 0,
-        9 => both_true(x, y),
-        10 => either_true(x, y),
-        11 => not_true(x),
-        12.. => 0,
+        Kind::Sum => x + y,
+        Kind::Difference => x - y,
+        Kind::Product => x * w.w2,
+        Kind::Comparison => compare(w, x, y),
+        Kind::And => bit(same(x, 1) & same(y, 1)),
+        Kind::Or => bit(same(x, 1) | same(y, 1)),
+        Kind::Not => bit(!same(x, 1)),
+        _ => 0,
     }
 }
 
-// Whether the first child of a node of kind number k already decides it.
-pub fn decides(k: usize, x: i64) -> bool
-    ensures { result ≡ (row_of k).decides x }
+// Whether the first child of a node already decides it.
+#[tactic(auto, unfolding(node::specs::Rows::row_of))]
+pub fn decides(k: Kind, x: i64) -> bool
+    ensures { result ≡ (row_of (kind_number k)).decides x }
 {
     match k {
-        0..=8 => false,
-        9 => same(x, 0),
-        10 => same(x, 1),
-        11.. => false,
+        Kind::And => same(x, 0),
+        Kind::Or => same(x, 1),
+        _ => false,
     }
 }
 
-// Whether a node of kind number k is a quantifier.
-pub fn quantifies(k: usize) -> bool
-    ensures { result ≡ is_quantifier k }
+// Whether a node is a quantifier.
+pub fn quantifies(k: Kind) -> bool
+    ensures { result ≡ is_quantifier (kind_number k) }
 {
-    (k == 14) | (k == 15)
+    matches!(k, Kind::ForAll | Kind::Exists)
+}
+
+// Whether a node is "exists".
+pub fn is_exists(k: Kind) -> bool
+    ensures { result ≡ eqb (kind_number k) 15 }
+{
+    matches!(k, Kind::Exists)
 }
 
 // Whether the body's value x at an element decides a quantifier: "exists" where it is true, "for all" where it is not.
+#[tactic(auto, unfolding(crate::specs::Inner::settles))]
 pub fn settles(exists: bool, x: i64) -> bool
     ensures { result ≡ settles exists x }
 {
-    let holds = same(x, 1);
-    if exists { holds } else { !holds }
+    same(x, 1) == exists
 }
 
 // The type and range of a literal.
-fn literal_range(w: Words, t: usize) -> Item
+fn literal_range(w: Record<i64>, t: usize) -> Item
     requires { (t ≤ 258) × (word_number w.w2 ≤ 127) }
-    ensures { result ≡ item_span (t + word_number w.w2) w.w1 w.w1 }
+    ensures { result ≡ span (t + word_number w.w2) w.w1 w.w1 }
 {
-    span(literal_sort(w, t), w.w1, w.w1)
+    Item {
+        sort: literal_sort(w, t),
+        low: w.w1,
+        high: w.w1,
+    }
 }
 
-// The type and range of a node of kind number k that its row takes.
-pub fn range_from(k: usize, g: Given) -> Item
-    requires { SmallKids g × ((row_of k).takes g ≡ true) }
-    ensures { result ≡ (row_of k).gives g }
+// The type and range of a comparison, of which there are six.
+fn comparison_range(w: Record<i64>, x: Item, y: Item) -> Item
+    requires { Small x × Small y × (word_number w.w1 ≤ 5) }
+    ensures { result ≡ compared (word_number w.w1) x y }
+{
+    match Comparison::try_from(num(w.w1)) {
+        Ok(op) => x.compared(op, y),
+        Err(_) => Item::NONE,
+    }
+}
+
+// The type and range of a node that its row takes.
+#[tactic(auto, unfolding(node::specs::Rows::row_of))]
+pub fn range_from(k: Kind, g: Given) -> Item
+    requires { SmallKids g × ((row_of (kind_number k)).takes g ≡ true) }
+    ensures { result ≡ (row_of (kind_number k)).gives g }
 {
     let w = g.words;
     let f = g.fact;
-    let own = f.item;
     let x = g.x;
     let y = g.y;
     match k {
-        0 => literal_range(w, 1),
-        1 => literal_range(w, 0),
-        2 => literal_range(w, 2),
-        3 => own,
-        4 => sum(x, y),
-        5 => difference(x, y),
-        6 => multiple(w.w2, x),
-        7 => compared(num(w.w1), x, y),
-        8 => span(0, 0, 1),
-        9 => both(x, y),
-        10 => either(x, y),
-        11 => negation(x),
-        12 => literal_range(w, 130),
-        13 => literal_range(w, 258),
-        14 => span(0, 0, 1),
-        15 => span(0, 0, 1),
-        16 => span(1, 0, f.most),
-        17 => own,
-        18.. => span(0, 0, 0),
+        Kind::IntLiteral => literal_range(w, 1),
+        Kind::BoolLiteral => literal_range(w, 0),
+        Kind::EnumLiteral => literal_range(w, 2),
+        Kind::Fact | Kind::Element => f.item,
+        Kind::Sum => x.sum(y),
+        Kind::Difference => x.difference(y),
+        Kind::Product => x.multiple(w.w2),
+        Kind::Comparison => comparison_range(w, x, y),
+        Kind::Present | Kind::ForAll | Kind::Exists => Item::TRUTH,
+        Kind::And => x.both(y),
+        Kind::Or => x.either(y),
+        Kind::Not => x.negation(),
+        Kind::MoneyLiteral => literal_range(w, 130),
+        Kind::DurationLiteral => literal_range(w, 258),
+        Kind::Length => Item {
+            sort: 1,
+            low: 0,
+            high: f.most,
+        },
     }
 }

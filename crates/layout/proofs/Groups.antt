@@ -15,29 +15,26 @@ use Rattle.layout.specs.declared.Header.{Header}
 use Rattle.layout.specs.Groups.{effect_count, step_count, route_count, good_group, good_groups}
 
 -- after i owners: their sum so far, each within its bound
-pub record Summed (f : ℕ → ℕ) (owners i sum : ℕ) : Type 0 where
-  pub here : i ≤ owners
+pub record Summed (f : ℕ → ℕ) (i sum : ℕ) : Type 0 where
   pub is : sum ≡ sum_below f i
   pub small : sum ≤ 1024 * i
   pub each : (k : ℕ) → k < i → f k ≤ 1024
 
-pub none : (f : ℕ → ℕ) (owners : ℕ) → Summed f owners 0 0
-none f owners = record { here = omega arith; is = sym (sum_zero f); small = omega arith; each = λ k l. absurd (omega arith) }
+pub none : (f : ℕ → ℕ) → Summed f 0 0
+none f = record { is = sym (sum_zero f); small = omega arith; each = λ k l. absurd (omega arith) }
 
-pub more : (f : ℕ → ℕ) (owners i sum n : ℕ) → Summed f owners i sum → i < owners → n ≡ f i → n ≤ 1024 → Summed f owners (i + 1) (sum + n)
-more f owners i sum n r l e q =
+pub more : (f : ℕ → ℕ) (i sum n : ℕ) → Summed f i sum → n ≡ f i → n ≤ 1024 → Summed f (i + 1) (sum + n)
+more f i sum n r e q =
     record {
-      here = omega arith;
       is = rw (sum_more f i, r.is, e);
       small = omega (arith, r.small);
       each = extend_one (λ (k : ℕ). f k ≤ 1024) i r.each (rw (← e) q);
     }
 
-pub all_good : (f : ℕ → ℕ) (owners size i sum : ℕ) → Summed f owners i sum → owners ≤ i → eqb sum size ≡ good_group f owners size
+pub all_good : (f : ℕ → ℕ) (owners size i sum : ℕ) → Summed f i sum → i ≡ owners → eqb sum size ≡ good_group f owners size
 unfolding good_group
-all_good f owners size i sum r l =
-    let e : i ≡ owners = omega (arith, r.here) in
-    rw (all_of (λ i. leb (f i) 1024) owners (λ k q. le-leb (f k) 1024 (r.each k (omega arith))), r.is, e)
+all_good f owners size i sum r e =
+    rw (← e) (rw (all_of (λ i. leb (f i) 1024) i (λ k q. le-leb (f k) 1024 (r.each k q)), r.is))
 
 pub one_bad : (f : ℕ → ℕ) (owners size i : ℕ) → i < owners → 1024 < f i → false ≡ good_group f owners size
 unfolding good_group

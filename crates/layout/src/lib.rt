@@ -8,7 +8,9 @@ ghost use Rattle.layout.specs.Groups.{good_group, good_groups};
 ghost use Rattle.layout.specs.Sized.{Limits, Sized, Owners};
 
 pub mod place;
+mod sheet;
 
+pub use sheet::Sheet;
 use words::{number, number_at};
 
 // The counts of a sheet, in the header's order.
@@ -69,6 +71,7 @@ impl Header {
 
     pub const ROUTES: usize = 1024;
 
+    #[tactic(auto, unfolding(crate::specs::Header::header_of))]
     pub fn read(s: &[i64]) -> Header
         requires { 16 ≤ length s.now }
         ensures { result ≡ header_of s.now }
@@ -88,6 +91,7 @@ impl Header {
         }
     }
 
+    #[tactic(auto, unfolding(crate::specs::Header::in_limits))]
     pub fn in_limits(self) -> bool
         ensures { result ≡ in_limits self }
     {
@@ -168,6 +172,7 @@ impl Header {
     }
 }
 
+#[tactic(auto, unfolding(crate::specs::Header::good_frame))]
 fn good_frame(s: &[i64]) -> bool
     requires { 16 ≤ length s.now }
     ensures { result ≡ good_frame s.now }
@@ -180,6 +185,7 @@ fn good_frame(s: &[i64]) -> bool
 }
 
 // Refusal 1 is given exactly where this is false.
+#[tactic(auto, using(crate::proofs::Limits::limits))]
 pub fn good_header(s: &[i64]) -> bool
     ensures { result ≡ good_header s.now }
 {
@@ -187,14 +193,14 @@ pub fn good_header(s: &[i64]) -> bool
         return false;
     }
     let h = Header::read(s);
-    let frame = good_frame(s);
-    if h.in_limits() {
-        let size = h.records();
-        frame & (s.len() == 16 + 8 * size)
-    } else {
-        false
+    if !h.in_limits() {
+        return false;
     }
+    good_frame(s) & (s.len() == 16 + 8 * h.records())
 }
+
+// The most members that an owner may have.
+const MOST: usize = 1024;
 
 // Whether word j of each of the records from `first` on is at most 1,024, and they sum to `size`.
 fn good_group(s: &[i64], first: usize, j: usize, owners: usize, size: usize) -> bool
@@ -202,29 +208,37 @@ fn good_group(s: &[i64], first: usize, j: usize, owners: usize, size: usize) -> 
     ensures { result ≡ good_group (λ i. number s.now (first + i) j) owners size }
 {
     let mut sum = 0;
-    let mut i = 0;
-    while i < owners {
+    for i in 0..owners {
         let n = number(s, first + i, j);
-        if 1024 < n {
+        if MOST < n {
             return false;
         }
         sum += n;
-        i += 1;
     }
     sum == size
 }
 
 // Refusal 2 is given exactly where the header is good and this is false.
-pub fn good_groups(s: &[i64], h: Header) -> bool
-    requires { Sized s.now h }
-    ensures { result ≡ good_groups s.now h }
+pub fn good_groups(s: &Sheet) -> bool
+    ensures { result ≡ good_groups s.now.words.now s.now.header }
 {
     good_group(
-        s,
-        h.first_operation(),
+        s.words,
+        s.header.first_operation(),
         place::OPERATION_EFFECTS,
-        h.operations,
-        h.effects,
-    ) & good_group(s, h.first_flow(), place::FLOW_STEPS, h.flows, h.steps)
-        & good_group(s, h.first_step(), place::STEP_ROUTES, h.steps, h.routes)
+        s.header.operations,
+        s.header.effects,
+    ) & good_group(
+        s.words,
+        s.header.first_flow(),
+        place::FLOW_STEPS,
+        s.header.flows,
+        s.header.steps,
+    ) & good_group(
+        s.words,
+        s.header.first_step(),
+        place::STEP_ROUTES,
+        s.header.steps,
+        s.header.routes,
+    )
 }

@@ -6,52 +6,44 @@ ghost use Rattle.std.specs.Prelude.{◌<◌};
 ghost use Rattle.answer.specs.Number.{place};
 
 use answer::Refusal;
-use path_lines::Entrance;
-use script::buffers::{lend_bytes, past};
-use script::lines;
+use script::buffers::Cursor;
+use standard::Output;
+use std::io;
+use std::io::Write;
 
-fn accepted(n: usize) {
-    lines::field(n);
-    lines::end();
-}
-
-fn refused(r: Refusal)
+fn refused(out: &mut impl Write, case: usize, r: Refusal) -> io::Result<()>
     requires { place r < 100000 }
 {
-    let mut out = io::buffer();
-    let n = path_lines::refusal(r, &mut out);
-    io::write_all(1, b"\t");
-    io::write_all(1, &out[..n]);
+    let mut line = [0u8; 32];
+    let n = path_lines::refusal(r, &mut line);
+    write!(out, "{case}\t")?;
+    out.write_all(&line[..n])
 }
 
-fn enter(tape: &[i64], at: usize, case: usize) {
-    let mut text = io::large_buffer();
+fn enter(out: &mut impl Write, cases: &mut Cursor<'_>, case: usize) -> io::Result<()> {
+    let mut text = [0u8; 65_536];
     let mut words = [0i64; 8000];
-    let n = lend_bytes(tape, at, &mut text);
-    lines::number(case);
-    match path_lines::open_text(&text[..n], &mut words) {
-        Entrance::Good(_, k) => accepted(k),
-        Entrance::Bad(r) => refused(r),
+    let text = cases.lend(&mut text);
+    match path_lines::open_text(text, &mut words) {
+        Ok((_, n)) => writeln!(out, "{case}\t{n}"),
+        Err(r) => refused(out, case, r),
     }
 }
 
-fn run_all(tape: &[i64], end: usize) {
-    let mut at = 0;
-    let mut case = 0;
-    while case < 4096 {
-        if end <= at {
+fn run_all(out: &mut impl Write, mut cases: Cursor<'_>) -> io::Result<()> {
+    for case in 0..4096 {
+        if cases.is_over() {
             break;
         }
-        enter(tape, at, case);
-        at = past(tape, at);
-        case += 1;
+        enter(out, &mut cases, case)?;
     }
+    Ok(())
 }
 
 fn main() {
-    let mut text = io::large_buffer();
-    let n = io::read_full(0, &mut text);
+    let mut text = [0u8; 65_536];
+    let n = standard::read(&mut text);
     let mut tape = [0i64; 8192];
     let end = script::read(&text[..n], &mut tape);
-    run_all(&tape, end);
+    let _ = run_all(&mut Output, Cursor::new(&tape, end));
 }

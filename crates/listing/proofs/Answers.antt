@@ -1,5 +1,6 @@
 -- When next is refused 12, and that the answers of first and next fit a signed word.
 -- Assumes nothing.
+use Rattle.std.specs.Prelude.{Err}
 use mathlib.Core.Path.{◌≡◌, refl, sym, ◌∙◌}
 use mathlib.Core.Bool.{false}
 use mathlib.Core.List.Memᴰ
@@ -9,9 +10,8 @@ use Prim.Native.Nat.{ℕ, ◌<◌}
 use lib.IntN.{ℤ}
 use native.Mathlib.Omega.{arith}
 use Rattle.tables.proofs.Bools.{bool_cases}
-use Rattle.answer.specs.Inner.{SmallCounted}
+use Rattle.answer.specs.Inner.{Small}
 use Rattle.answer.specs.declared.Refusal.TheVariants.{NotPath}
-use Rattle.answer.specs.declared.Counted.TheVariants.{Refused}
 use Rattle.layout.specs.declared.Header.{Header}
 use Rattle.records.specs.Accepted.{Accepted}
 use Rattle.walks.specs.Paths.{PathOf, paths, path}
@@ -53,7 +53,7 @@ unfolding following
 none_absent [] b k = refl
 none_absent (q ∷ ps) b k = follow_later q ps b (k q (Memᴰ.head refl)) ∙ none_absent ps b (λ p m. k p (Memᴰ.tail m))
 
-absent_answer : (s : List ℤ) (h : Header) (x : Following) → answer_of s h x ≡ Refused NotPath → x ≡ Absent
+absent_answer : (s : List ℤ) (h : Header) (x : Following) → answer_of s h x ≡ Err NotPath → x ≡ Absent
 unfolding answer_of
 absent_answer s h Absent e = refl
 absent_answer s h Final e = let z : ◌≡◌ {A = ℕ} 0 1 = cc in absurd (omega arith)
@@ -61,7 +61,7 @@ absent_answer s h (Then p) e = let z : ◌≡◌ {A = ℕ} 0 1 = cc in absurd (o
 
 module _ {s : List ℤ} {h : Header} {f : ℕ} {b : List ℕ} (u : Lent s h f b) where
   -- next is refused 12 exactly where the buffer begins with no path of the flow
-  pub not_path : (next_walk s h f b ≡ Refused NotPath) ↔ ((p : List ℕ) → PathOf s h f p → begins p b ≡ false)
+  pub not_path : (next_walk s h f b ≡ Err NotPath) ↔ ((p : List ℕ) → PathOf s h f p → begins p b ≡ false)
   unfolding next_walk answer_of
   not_path = (
     λ e p k. absent_none (paths s h f) b (absent_answer s h (following (paths s h f) b) e) p (paths_complete s h u.sheet f u.flow p k),
@@ -71,18 +71,18 @@ module _ {s : List ℤ} {h : Header} {f : ℕ} {b : List ℕ} (u : Lent s h f b)
 -- ---- answers fit a signed word
 
 module _ {s : List ℤ} {h : Header} {f : ℕ} (a : Accepted s h) (l : f < h.flows) where
-  small_walk : (p : List ℕ) → Memᴰ p (paths s h f) → SmallCounted (walk_of s h p)
+  small_walk : (p : List ℕ) → Memᴰ p (paths s h f) → Small (λ x. (x.value, x.count)) (walk_of s h p)
   small_walk p m = let z = path_small s h a f l p (paths_sound s h a f l p m) in (omega arith, omega arith)
 
-  pub first_small : SmallCounted (first_walk s h f)
+  pub first_small : Small (λ x. (x.value, x.count)) (first_walk s h f)
   unfolding first_walk path
   first_small = small_walk (path s h f 0) (mem_at (paths s h f) 0 (paths_some s h a f l))
 
-  pub next_small : (b : List ℕ) → SmallCounted (next_walk s h f b)
+  pub next_small : (b : List ℕ) → Small (λ x. (x.value, x.count)) (next_walk s h f b)
   unfolding next_walk answer_of
   next_small b = go (following (paths s h f) b) refl
     where
-      go : (x : Following) → following (paths s h f) b ≡ x → SmallCounted (answer_of s h x)
+      go : (x : Following) → following (paths s h f) b ≡ x → Small (λ x. (x.value, x.count)) (answer_of s h x)
       go Absent e = omega arith
       go Final e = omega arith
       go (Then p) e = small_walk p (then_mem (paths s h f) b p e)

@@ -1,5 +1,6 @@
 -- What `finish`, `first` and `next` answer and leave in the buffer, from what the walks below them do.
 -- Assumes nothing.
+use Rattle.std.specs.Prelude.{Option, None, Some, Err, ok_or}
 use mathlib.Core.Path.{◌≡◌, refl, sym, ap, subst, ◌∙◌}
 use mathlib.Core.List.{List, [], ◌++◌}
 use Prim.Native.Nat.{ℕ, ◌+◌, ◌-◌, ◌≤◌, ◌<◌}
@@ -9,18 +10,15 @@ use lib.IntN.{ℤ}
 use lib.ListN.{length, get_or, take, set, replicate, length-set}
 use lib.Seq.{sets, length-sets, length-take-le, take-suc-set, append_snoc}
 use Rattle.answer.specs.declared.Refusal.TheVariants.{NotPath, LastPath}
-use Rattle.answer.specs.declared.Counted.{Counted}
-use Rattle.answer.specs.declared.Counted.TheVariants.{Refused}
+use Rattle.answer.specs.Answers.{Counted}
 use Rattle.layout.specs.declared.Header.{Header}
 use Rattle.walks.specs.declared.Walker.{Walker}
 use Rattle.walks.specs.Paths.{first_route_of, paths, path}
 use Rattle.walks.specs.Walkers.{started, taken, arrived}
 use Rattle.walks.specs.Inner.{walked, remaining, first_way, Going, Lent}
-use Rattle.listing.specs.declared.Found.{Found}
-use Rattle.listing.specs.declared.Found.TheVariants.{Nowhere, Last, Turn}
-use Rattle.walks.specs.Follows.{Absent, Final, Then, following, walk_of, laid}
+use Rattle.walks.specs.Follows.{Following, Absent, Then, following, walk_of, laid}
 use Rattle.listing.specs.Calls.{first_walk, first_laid, answer_of, buffer_of, next_walk, next_laid}
-use Rattle.listing.specs.Seeks.{turn_route, turned, turning, Turnable, CanTurn, Sought}
+use Rattle.listing.specs.Seeks.{turn_route, turned, turning, Turnable, CanTurn, TurnsAt, Sought}
 use Rattle.walks.proofs.Ways.{way_route, paths_on_lem}
 use Rattle.walks.proofs.Walks.{remaining_on, start_going, going_on, going_room, first_way_lem, first_way_short, walked_length, arrives}
 use Rattle.walks.proofs.Buffers.{written, laid_same}
@@ -68,27 +66,29 @@ module _ {s : List ℤ} {h : Header} {f : ℕ} {b : List ℕ} (u : Lent s h f b)
 
   -- ---- seek: the walk along the buffer starts where the flow's paths do
 
-  pub seek_start : {w : Walker} → w ≡ started s h f → Seeking s h b w w Last
+  pub seek_start : {w : Walker} → w ≡ started s h f → Seeking s h b w w None
   unfolding started
   seek_start {w} q = seek_none b (rw q (start_going u)) (ap (λ (v : Walker). v.length) q)
 
-  pub sought : {w : Walker} {r : Found} → w ≡ started s h f → following (remaining s h w) b ≡ turning s h b r → CanTurn s h b r → Sought s h f b r
-  sought {w} {r} q x c = record { follows = ap (λ (t : List (List ℕ)). following t b) (sym start_remaining) ∙ (rw q at x); can = c }
+  follows_from : {w : Walker} {x : Following} → w ≡ started s h f → following (remaining s h w) b ≡ x → following (paths s h f) b ≡ x
+  follows_from q x = ap (λ (t : List (List ℕ)). following t b) (sym start_remaining) ∙ (rw q at x)
 
--- ---- next: by what `seek` found
+  pub sought_nowhere : {w : Walker} → w ≡ started s h f → following (remaining s h w) b ≡ Absent → Sought s h f b (Err NotPath)
+  unfolding next_walk next_laid answer_of buffer_of
+  sought_nowhere q x = let z = follows_from q x in (rw (z, answer_of), rw (z, buffer_of))
 
-module _ {s : List ℤ} {h : Header} {f : ℕ} {b : List ℕ} {r : Found} (k : Sought s h f b r) where
-  pub next_nowhere : r ≡ Nowhere → (Refused NotPath ≡ next_walk s h f b) × (b ≡ next_laid s h f b)
+  pub sought : {w : Walker} → w ≡ started s h f → (t : Option Walker) → following (remaining s h w) b ≡ turning s h b t → CanTurn s h b t
+      → Sought s h f b (ok_or t LastPath)
   unfolding next_walk next_laid answer_of buffer_of turning
-  next_nowhere e = let z : following (paths s h f) b ≡ Absent = k.follows ∙ ap (turning s h b) e in (rw (z, answer_of), rw (z, buffer_of))
+  sought q None x c = let z = follows_from q x in (rw (z, answer_of), rw (z, buffer_of))
+  sought q (Some v) x c = record { follows = follows_from q x; can = c }
 
-  pub next_last : r ≡ Last → (Refused LastPath ≡ next_walk s h f b) × (b ≡ next_laid s h f b)
-  unfolding next_walk next_laid answer_of buffer_of turning
-  next_last e = let z : following (paths s h f) b ≡ Final = k.follows ∙ ap (turning s h b) e in (rw (z, answer_of), rw (z, buffer_of))
+-- ---- next: from where `seek` found the turn
 
-  module _ {v : Walker} (e : r ≡ Turn v) where
+module _ {s : List ℤ} {h : Header} {f : ℕ} {b : List ℕ} where
+  module _ {v : Walker} (k : TurnsAt s h f b v) where
     turnable : Turnable s h b v
-    turnable = subst (CanTurn s h b) e k.can
+    turnable = k.can
 
     pub turn_route_lem : turn_route b v < h.routes
     turn_route_lem = way_route s h turnable.going.sheet (turnable.going.way turnable.on) (turn_route b v) turnable.route
@@ -97,8 +97,7 @@ module _ {s : List ℤ} {h : Header} {f : ℕ} {b : List ℕ} {r : Found} (k : S
     turn_room = going_room turnable.going turnable.on
 
     turn_follows : following (paths s h f) b ≡ Then (turned s h b v)
-    unfolding turning
-    turn_follows = k.follows ∙ ap (turning s h b) e
+    turn_follows = k.follows
 
     turn_arrives : arrived (walked s h (taken s h v (turn_route b v)) (first_way s h (taken s h v (turn_route b v)))) ≡ walk_of s h (turned s h b v)
     unfolding walked turned

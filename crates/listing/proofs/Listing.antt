@@ -1,5 +1,6 @@
 -- Demand 3 over lists of calls. A first leads to path 0, a next from path n to path n + 1 or, past the last one, to the same path and
 -- refusal 13; so for every list of calls. Assumes nothing.
+use Rattle.std.specs.Prelude.{Err}
 use mathlib.Core.Path.{◌≡◌, refl, sym, ap, ◌∙◌}
 use mathlib.Core.Bool.{true, false}
 use mathlib.Core.List.{List, [], ◌∷◌, ◌++◌}
@@ -11,7 +12,6 @@ use native.Mathlib.Omega.{arith}
 use native.Mathlib.Decide.{dec_lt}
 use borrow.Author.Tests.{eq-eqb, ne_eqb}
 use Rattle.answer.specs.declared.Refusal.TheVariants.{LastPath}
-use Rattle.answer.specs.declared.Counted.TheVariants.{Refused}
 use Rattle.layout.specs.declared.Header.{Header}
 use Rattle.walks.specs.Paths.{Before, here, later, paths, path}
 use Rattle.walks.specs.Inner.{PathList, Lent}
@@ -51,7 +51,7 @@ head_past : (ps : List (List ℕ)) (n : ℕ) → length ps ≤ n → head_of (dr
 unfolding head_of
 head_past ps n l = rw (drop_of_length-le ps l)
 
-walked_refused : (s : List ℤ) (h : Header) (p : List ℕ) → walk_of s h p ≡ Refused LastPath → ⊥
+walked_refused : (s : List ℤ) (h : Header) (p : List ℕ) → walk_of s h p ≡ Err LastPath → ⊥
 walked_refused s h p e = let z : ◌≡◌ {A = ℕ} 0 1 = cc in omega arith
 
 -- ---- one call
@@ -149,7 +149,7 @@ module _ {s : List ℤ} {h : Header} {f : ℕ} {b : List ℕ} (u : Lent s h f b)
   read_path k t p e z =
       rw (e, read_off) (ap (λ (q : List ℕ). q ∷ read_off s h f k (called s h f t.buffer Next)) (ap (take (length p)) z ∙ take_laid p))
 
-  read_refused : (k : ℕ) (t : State) → t.answer ≡ Refused LastPath → read_off s h f (suc k) t ≡ []
+  read_refused : (k : ℕ) (t : State) → t.answer ≡ Err LastPath → read_off s h f (suc k) t ≡ []
   unfolding read_off
   read_refused k t e = rw (e, read_off)
 

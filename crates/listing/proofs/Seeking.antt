@@ -14,8 +14,7 @@ use borrow.Author.Tests.{not-true, not-false}
 use Rattle.layout.specs.declared.Header.{Header}
 use Rattle.records.specs.Accepted.{Accepted}
 use Rattle.walks.specs.declared.Walker.{Walker}
-use Rattle.listing.specs.declared.Found.{Found}
-use Rattle.listing.specs.declared.Found.TheVariants.{Nowhere, Last, Turn}
+use Rattle.std.specs.Prelude.{Option, None, Some}
 use Rattle.walks.specs.Paths.{first_route_of, routes_of, routes_end_of, RouteOf, in_turn}
 use Rattle.walks.specs.Walkers.{taken}
 use Rattle.walks.specs.Inner.{paths_after, remaining, Going}
@@ -27,12 +26,12 @@ use Rattle.walks.proofs.Walks.{remaining_on, remaining_done, remaining_taken, go
 use Rattle.walks.proofs.Follow.{resolve, resolve_none, resolve_more, turn_absent, turn_follow, turn_first, turn_some, head_some}
 
 -- the walk has come from w₀ to w along the buffer, and `turn` is the last place where a later route could be taken
-pub record Seeking (s : List ℤ) (h : Header) (b : List ℕ) (w₀ w : Walker) (turn : Found) : Type 0 where
+pub record Seeking (s : List ℤ) (h : Header) (b : List ℕ) (w₀ w : Walker) (turn : Option Walker) : Type 0 where
   pub going : Going s h w (length b)
   pub can : CanTurn s h b turn
   pub is : following (remaining s h w₀) b ≡ resolve (take w.length b) (turning s h b turn) (following (remaining s h w) (drop w.length b))
 
-pub seek_none : {s : List ℤ} {h : Header} (b : List ℕ) {w₀ : Walker} → Going s h w₀ (length b) → w₀.length ≡ 0 → Seeking s h b w₀ w₀ Last
+pub seek_none : {s : List ℤ} {h : Header} (b : List ℕ) {w₀ : Walker} → Going s h w₀ (length b) → w₀.length ≡ 0 → Seeking s h b w₀ w₀ None
 unfolding turning
 seek_none {s} {h} b {w₀} g e =
     let x = following (remaining s h w₀) b in
@@ -42,7 +41,7 @@ seek_none {s} {h} b {w₀} g e =
       is = subst (λ (n : ℕ). x ≡ resolve (take n b) Final (following (remaining s h w₀) (drop n b))) (sym e) (sym (resolve_none x));
     }
 
-module _ {s : List ℤ} {h : Header} {b : List ℕ} {w₀ w : Walker} {turn : Found} (k : Seeking s h b w₀ w turn) where
+module _ {s : List ℤ} {h : Header} {b : List ℕ} {w₀ w : Walker} {turn : Option Walker} (k : Seeking s h b w₀ w turn) where
   -- the walk is finished: the path is there, and what follows it leaves it at the last turn
   pub seek_done : not w.finished ≡ false → following (remaining s h w₀) b ≡ turning s h b turn
   unfolding following begins head_of resolve
@@ -94,7 +93,7 @@ module _ {s : List ℤ} {h : Header} {b : List ℕ} {w₀ w : Walker} {turn : Fo
           ∙ rw (resolve_more, take-suc b w.length 0 seek_room, remaining_taken s h w (route_at b w))
 
     -- the walk takes it; where it is not the step's last, a later route could be taken here
-    module _ (o : RouteOf s h w.step (route_at b w)) (t : Found) where
+    module _ (o : RouteOf s h w.step (route_at b w)) (t : Option Walker) where
       taken_on : CanTurn s h b t
           → following (remaining s h w₀) b ≡ resolve (take (suc w.length) b) (turning s h b t)
           (following (remaining s h (taken s h w (route_at b w))) (drop (suc w.length) b))
@@ -115,7 +114,7 @@ module _ {s : List ℤ} {h : Header} {b : List ℕ} {w₀ w : Walker} {turn : Fo
     seek_last o l = taken_on o turn k.can (step_on o 0 (omega (arith, o.high)))
 
     later_head : RouteOf s h w.step (suc (route_at b w)) → (m : ℕ)
-        → resolve (take w.length b) (turning s h b turn) (head_of (in_turn (paths_after s h) (suc (route_at b w)) (suc m))) ≡ turning s h b (Turn w)
+        → resolve (take w.length b) (turning s h b turn) (head_of (in_turn (paths_after s h) (suc (route_at b w)) (suc m))) ≡ turning s h b (Some w)
     unfolding resolve turning turned
     later_head o m =
         let some = some_onward s h a (k.going.way on) (suc (route_at b w)) o in
@@ -123,11 +122,11 @@ module _ {s : List ℤ} {h : Header} {b : List ℕ} {w₀ w : Walker} {turn : Fo
         (rw (turn_first (paths_after s h) (suc (route_at b w)) m some, turned, add-one (route_at b w), remaining_taken s h w (suc (route_at b w))))
 
     pub seek_turn : RouteOf s h w.step (route_at b w) → route_at b w + 1 < routes_end_of s h w.step
-        → Seeking s h b w₀ (taken s h w (route_at b w)) (Turn w)
+        → Seeking s h b w₀ (taken s h w (route_at b w)) (Some w)
     seek_turn o l =
         let m = routes_end_of s h w.step - suc (suc (route_at b w)) in
         let o' : RouteOf s h w.step (route_at b w + 1) = record { low = omega (arith, o.low); high = l } in
-        taken_on o (Turn w) (record { going = k.going; on = on; route = o' })
+        taken_on o (Some w) (record { going = k.going; on = on; route = o' })
         (step_on o (suc m) (omega arith)
         ∙ ap
         (λ (y : Following). resolve (take (suc w.length) b) y (following (remaining s h (taken s h w (route_at b w))) (drop (suc w.length) b)))
@@ -138,7 +137,7 @@ module _ {s : List ℤ} {h : Header} {b : List ℕ} {w₀ w : Walker} {turn : Fo
       pub seek_sum : first + many ≤ h.routes
       seek_sum = rw (p, q) seek_ends
 
-      pub seek_nowhere : (route_at b w < first) ⊎ (first + many ≤ route_at b w) → following (remaining s h w₀) b ≡ turning s h b Nowhere
+      pub seek_nowhere : (route_at b w < first) ⊎ (first + many ≤ route_at b w) → following (remaining s h w₀) b ≡ Absent
       unfolding turning
       seek_nowhere o = seek_out (rw (p, q) at o)
 
@@ -146,8 +145,8 @@ module _ {s : List ℤ} {h : Header} {b : List ℕ} {w₀ w : Walker} {turn : Fo
         seek_route : RouteOf s h w.step (route_at b w)
         seek_route = record { low = rw p at low; high = rw (p, q) at high }
 
-        pub seek_more : {w' : Walker} {t : Found} → w' ≡ taken s h w (route_at b w)
-            → ((route_at b w + 1 < first + many) × (t ≡ Turn w)) ⊎ ((first + many ≤ route_at b w + 1) × (t ≡ turn)) → Seeking s h b w₀ w' t
+        pub seek_more : {w' : Walker} {t : Option Walker} → w' ≡ taken s h w (route_at b w)
+            → ((route_at b w + 1 < first + many) × (t ≡ Some w)) ⊎ ((first + many ≤ route_at b w + 1) × (t ≡ turn)) → Seeking s h b w₀ w' t
         seek_more z (inl x) = rw (z, x.1) (seek_turn seek_route (rw (p, q) at x.0))
         seek_more z (inr x) = rw (z, x.1) (seek_last seek_route (rw (p, q) at x.0))
 

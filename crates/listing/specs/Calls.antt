@@ -1,9 +1,8 @@
 -- 01, "Reports": what first and next answer, and what they leave in the buffer.
 -- Assumes nothing.
-use Rattle.std.specs.Prelude.{List, ℕ, ℤ}
+use Rattle.std.specs.Prelude.{List, ℕ, ℤ, Err}
 use Rattle.answer.specs.declared.Refusal.TheVariants.{NotPath, LastPath}
-use Rattle.answer.specs.declared.Counted.{Counted}
-use Rattle.answer.specs.declared.Counted.TheVariants.{Refused}
+use Rattle.answer.specs.Answers.{Counted}
 use Rattle.layout.specs.declared.Header.{Header}
 use Rattle.walks.specs.Paths.{paths, path}
 use Rattle.walks.specs.Follows.{Following, Absent, Final, Then, following, walk_of, laid}
@@ -17,8 +16,8 @@ first_laid s h f b = laid (path s h f 0) b
 
 -- next puts the path that follows the one it finds there; 12 where it finds none, 13 where none follows
 unfoldable pub answer_of : List ℤ → Header → Following → Counted
-answer_of s h Absent = Refused NotPath
-answer_of s h Final = Refused LastPath
+answer_of s h Absent = Err NotPath
+answer_of s h Final = Err LastPath
 answer_of s h (Then p) = walk_of s h p
 
 unfoldable pub buffer_of : Following → List ℕ → List ℕ

@@ -1,8 +1,7 @@
 -- What the inner functions ask and answer, and what proofs speak of. The definitions of the other files do not rest on these.
 -- Assumes nothing.
-use Rattle.std.specs.Prelude.{List, [], ◌∷◌, ℕ, ◌-◌, ◌≤◌, ◌<◌, zero, suc, min, ℤ, take, ◌≡◌, ◌↔◌}
+use Rattle.std.specs.Prelude.{List, [], ◌∷◌, ℕ, ◌-◌, ◌≤◌, ◌<◌, zero, suc, min, ℤ, take, ◌≡◌, ◌↔◌, Ok, Err}
 use Rattle.answer.specs.declared.Refusal.TheVariants.{LastPath}
-use Rattle.answer.specs.declared.Counted.TheVariants.{Is as Walked, Refused}
 use Rattle.layout.specs.declared.Header.{Header}
 use Rattle.walks.specs.Paths.{path}
 use Rattle.walks.specs.Follows.{walk_of, laid}
@@ -22,7 +21,7 @@ called_on s h f t (c ∷ cs) = called_on s h f (called s h f t.buffer c) cs
 -- and 0 past it; the final call is refused 13 exactly when there is no path n, else it answers that path's terminal and length
 pub record Listed (s : List ℤ) (h : Header) (f : ℕ) (b : List ℕ) (n : ℕ) (t : State) : Type 0 where
   pub holds : t.buffer ≡ laid (path s h f (min n (count s h f - 1))) b
-  pub refused : (t.answer ≡ Refused LastPath) ↔ (count s h f ≤ n)
+  pub refused : (t.answer ≡ Err LastPath) ↔ (count s h f ≤ n)
   pub answers : n < count s h f → t.answer ≡ walk_of s h (path s h f n)
 
 -- the paths that stand in the buffer after a call and after each of the nexts that follow it, up to the one that is refused, k calls at most
@@ -30,6 +29,6 @@ unfoldable pub read_off : List ℤ → Header → ℕ → ℕ → State → List
 read_off s h f zero t = []
 read_off s h f (suc k) t =
     elim t.answer [
-      | Walked e n ↦ take n t.buffer ∷ read_off s h f k (called s h f t.buffer Next)
-      | Refused r ↦ []
+      | Ok w ↦ take w.count t.buffer ∷ read_off s h f k (called s h f t.buffer Next)
+      | Err r ↦ []
     ]

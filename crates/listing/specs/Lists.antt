@@ -1,7 +1,7 @@
 -- 01, "Reports", and demand 3: lists of calls, on one sheet, one flow and one buffer, which may hold anything before it.
 -- Assumes nothing.
 use Rattle.std.specs.Prelude.{List, [], ◌∷◌, ℕ, suc, ℤ, length}
-use Rattle.answer.specs.declared.Counted.{Counted}
+use Rattle.answer.specs.Answers.{Counted}
 use Rattle.layout.specs.declared.Header.{Header}
 use Rattle.walks.specs.Paths.{paths}
 

@@ -1,14 +1,14 @@
 -- Where the path that follows a buffer's path leaves it: what `seek` finds.
 -- Assumes nothing.
-use Rattle.std.specs.Prelude.{◌≡◌, false, List, ◌∷◌, ◌++◌, ℕ, ◌+◌, ℤ, length, get_or, take}
+use Rattle.std.specs.Prelude.{◌≡◌, false, List, ◌∷◌, ◌++◌, ℕ, ◌+◌, ℤ, length, get_or, take, Option, None, Some, Result, Ok, Err}
+use Rattle.answer.specs.declared.Refusal.{Refusal}
 use Rattle.layout.specs.declared.Header.{Header}
 use Rattle.walks.specs.declared.Walker.{Walker}
-use Rattle.listing.specs.declared.Found.{Found}
-use Rattle.listing.specs.declared.Found.TheVariants.{Nowhere, Last, Turn}
 use Rattle.walks.specs.Paths.{RouteOf, paths}
 use Rattle.walks.specs.Walkers.{taken}
 use Rattle.walks.specs.Inner.{first_way, Going}
-use Rattle.walks.specs.Follows.{Following, Absent, Final, Then, following}
+use Rattle.walks.specs.Follows.{Following, Final, Then, following}
+use Rattle.listing.specs.Calls.{next_walk, next_laid}
 
 -- the route that the buffer has where the walker stands, and the one after it
 abbrev pub route_at : List ℕ → Walker → ℕ
@@ -21,11 +21,10 @@ turn_route b w = route_at b w + 1
 unfoldable pub turned : List ℤ → Header → List ℕ → Walker → List ℕ
 turned s h b w = take w.length b ++ turn_route b w ∷ first_way s h (taken s h w (turn_route b w))
 
--- what follows
-unfoldable pub turning : List ℤ → Header → List ℕ → Found → Following
-turning s h b Nowhere = Absent
-turning s h b Last = Final
-turning s h b (Turn w) = Then (turned s h b w)
+-- what follows, where the buffer begins with a path
+unfoldable pub turning : List ℤ → Header → List ℕ → Option Walker → Following
+turning s h b None = Final
+turning s h b (Some w) = Then (turned s h b w)
 
 -- the walker is on its way, and its step has that route
 pub record Turnable (s : List ℤ) (h : Header) (b : List ℕ) (w : Walker) : Type 0 where
@@ -33,12 +32,16 @@ pub record Turnable (s : List ℤ) (h : Header) (b : List ℕ) (w : Walker) : Ty
   pub on : w.finished ≡ false
   pub route : RouteOf s h w.step (turn_route b w)
 
-abbrev pub CanTurn : List ℤ → Header → List ℕ → Found → Type 0
-CanTurn s h b Nowhere = Unit {0}
-CanTurn s h b Last = Unit {0}
-CanTurn s h b (Turn w) = Turnable s h b w
+abbrev pub CanTurn : List ℤ → Header → List ℕ → Option Walker → Type 0
+CanTurn s h b None = Unit {0}
+CanTurn s h b (Some w) = Turnable s h b w
 
--- what is found is what follows the path at the buffer's head
-pub record Sought (s : List ℤ) (h : Header) (f : ℕ) (b : List ℕ) (r : Found) : Type 0 where
-  pub follows : following (paths s h f) b ≡ turning s h b r
-  pub can : CanTurn s h b r
+-- what follows the path at the buffer's head leaves it at the walker
+pub record TurnsAt (s : List ℤ) (h : Header) (f : ℕ) (b : List ℕ) (w : Walker) : Type 0 where
+  pub follows : following (paths s h f) b ≡ Then (turned s h b w)
+  pub can : Turnable s h b w
+
+-- what is found is where the path that follows leaves the buffer's, or the refusal that next answers, which leaves the buffer as it is
+abbrev pub Sought : List ℤ → Header → ℕ → List ℕ → Result Walker Refusal → Type 0
+Sought s h f b (Ok w) = TurnsAt s h f b w
+Sought s h f b (Err r) = (Err r ≡ next_walk s h f b) × (b ≡ next_laid s h f b)

@@ -2,8 +2,7 @@
 -- Assumes nothing.
 use mathlib.Core.Path.{◌≡◌, refl, sym, subst, ap₂, ◌∙◌}
 use mathlib.Core.Bool.{Bool, true, false, ◌&&◌}
-use Prim.Native.Nat.{ℕ, zero, suc, zero-le, ◌≤◌, ◌<◌}
-use native.Mathlib.Omega.{arith}
+use Prim.Native.Nat.{ℕ, ◌≤◌, ◌<◌}
 use lib.IntN.{ℤ}
 use lib.Dec.{leb}
 use lib.ListN.{get_or-eq_default}
@@ -27,19 +26,6 @@ accepted r g t e = rw e
 pub refused : (r : Row) (g : Given) → r.takes g ≡ false → bad ≡ judged r g
 unfolding judged fits keep
 refused r g e = rw (e, mid_no (unused r.used (numbers_of g.words)) (small (r.gives g)))
-
--- a number that is at least k and is not k is above it
-up : {k n : ℕ} → k ≤ n → (n ≡ k → ⊥) → suc k ≤ n
-up {k} {n} l d = omega (arith, d)
-
--- k is none of the numbers below n: what a match with an arm for each of them leaves to its last arm
-abbrev pub Past : ℕ → ℕ → Type 0
-Past zero k = Unit {0}
-Past (suc n) k = Past n k × (k ≡ n → ⊥)
-
-pub past : (n k : ℕ) → Past n k → n ≤ k
-past zero k p = zero-le
-past (suc n) k p = up (past n k p.0) p.1
 
 pub row_past : (k : ℕ) → 18 ≤ k → row_of k ≡ unknown
 unfolding row_of

@@ -1,20 +1,23 @@
 -- What only some kinds have: a verdict-present cites a rule, some kinds name a fact; which kinds have children.
 -- Assumes nothing.
+use Rattle.std.specs.Prelude.{ℤ}
 use mathlib.Core.Path.{◌≡◌, refl}
 use mathlib.Core.Bool.{Bool, false, ◌||◌}
 use lib.Dec.{leb, eqb}
 use Rattle.tables.proofs.Bools.{true_false}
 use mathlib.Core.List.{List, [], ◌∷◌}
 use native.Mathlib.Omega.{arith}
-use Prim.Native.Nat.{ℕ, zero, suc, ◌≤◌}
-use Rattle.words.specs.declared.Words.{Words}
+use Prim.Native.Nat.{ℕ, zero, suc}
+use Rattle.words.specs.declared.Record.{Record}
 use Rattle.node.specs.declared.Named.{Named}
 use Rattle.node.specs.declared.Given.{Given}
-use Rattle.node.specs.Rows.{unknown, row_of, fits}
-use Rattle.node.specs.Judged.{bad, judged}
-use Rattle.node.proofs.Judged.{refused}
+use Rattle.node.specs.declared.Kind.{Kind}
+use Rattle.node.specs.declared.Kind.TheVariants.{IntLiteral, BoolLiteral, EnumLiteral, Fact, Sum, Difference, Product, Comparison, Present, And, Or, Not, MoneyLiteral, DurationLiteral, ForAll, Exists, Length, Element}
+use Rattle.node.specs.Kinds.{kind_number}
+use Rattle.node.specs.Rows.{row_of, fits}
+use Rattle.node.specs.Judged.{judged}
 
-pub cites_none : (k : ℕ) → (k ≡ 8 → ⊥) → (w : Words) → (row_of k).cites w ≡ []
+pub cites_none : (k : ℕ) → (k ≡ 8 → ⊥) → (w : Record ℤ) → (row_of k).cites w ≡ []
 unfolding row_of
 cites_none zero d w = refl
 cites_none (suc zero) d w = refl
@@ -71,82 +74,30 @@ fact_unread (suc (suc (suc (suc (suc (suc (suc (suc (suc (suc (suc (suc (suc (su
 pub no_cons : (a : ℕ) (cs : List ℕ) → a ∷ cs ≡ [] → ⊥
 no_cons a cs e = let z : ◌≡◌ {A = ℕ} 0 1 = cc in omega arith
 
--- a node without children is of one of the kinds 0 to 3, 8, 12, 13, 16 and 17, or of none
-pub leaf_unknown : (k : ℕ) (w : Words) → (k ≡ 0 → ⊥) → (k ≡ 1 → ⊥) → (k ≡ 2 → ⊥) → (k ≡ 3 → ⊥) → (k ≡ 8 → ⊥) → (k ≡ 12 → ⊥) → (k ≡ 13 → ⊥) → (k ≡ 16 → ⊥) → (k ≡ 17 → ⊥)
-    → (row_of k).children w ≡ [] → row_of k ≡ unknown
+-- a kind that is none of nine has none
+pub childless : (k : Kind) (w : Record ℤ) → (k ≡ Sum → ⊥) → (k ≡ Difference → ⊥) → (k ≡ Product → ⊥) → (k ≡ Comparison → ⊥) → (k ≡ And → ⊥) → (k ≡ Or → ⊥) → (k ≡ Not → ⊥) → (k ≡ ForAll → ⊥) → (k ≡ Exists → ⊥)
+    → [] ≡ (row_of (kind_number k)).children w
 unfolding row_of
-leaf_unknown zero w a0 a1 a2 a3 a8 a12 a13 a16 a17 e = absurd (a0 refl)
-leaf_unknown (suc zero) w a0 a1 a2 a3 a8 a12 a13 a16 a17 e = absurd (a1 refl)
-leaf_unknown (suc (suc zero)) w a0 a1 a2 a3 a8 a12 a13 a16 a17 e = absurd (a2 refl)
-leaf_unknown (suc (suc (suc zero))) w a0 a1 a2 a3 a8 a12 a13 a16 a17 e = absurd (a3 refl)
-leaf_unknown (suc (suc (suc (suc zero)))) w a0 a1 a2 a3 a8 a12 a13 a16 a17 e = absurd (no_cons _ _ e)
-leaf_unknown (suc (suc (suc (suc (suc zero))))) w a0 a1 a2 a3 a8 a12 a13 a16 a17 e = absurd (no_cons _ _ e)
-leaf_unknown (suc (suc (suc (suc (suc (suc zero)))))) w a0 a1 a2 a3 a8 a12 a13 a16 a17 e = absurd (no_cons _ _ e)
-leaf_unknown (suc (suc (suc (suc (suc (suc (suc zero))))))) w a0 a1 a2 a3 a8 a12 a13 a16 a17 e = absurd (no_cons _ _ e)
-leaf_unknown (suc (suc (suc (suc (suc (suc (suc (suc zero)))))))) w a0 a1 a2 a3 a8 a12 a13 a16 a17 e = absurd (a8 refl)
-leaf_unknown (suc (suc (suc (suc (suc (suc (suc (suc (suc zero))))))))) w a0 a1 a2 a3 a8 a12 a13 a16 a17 e = absurd (no_cons _ _ e)
-leaf_unknown (suc (suc (suc (suc (suc (suc (suc (suc (suc (suc zero)))))))))) w a0 a1 a2 a3 a8 a12 a13 a16 a17 e = absurd (no_cons _ _ e)
-leaf_unknown (suc (suc (suc (suc (suc (suc (suc (suc (suc (suc (suc zero))))))))))) w a0 a1 a2 a3 a8 a12 a13 a16 a17 e = absurd (no_cons _ _ e)
-leaf_unknown (suc (suc (suc (suc (suc (suc (suc (suc (suc (suc (suc (suc zero)))))))))))) w a0 a1 a2 a3 a8 a12 a13 a16 a17 e = absurd (a12 refl)
-leaf_unknown (suc (suc (suc (suc (suc (suc (suc (suc (suc (suc (suc (suc (suc zero))))))))))))) w a0 a1 a2 a3 a8 a12 a13 a16 a17 e = absurd (a13 refl)
-leaf_unknown (suc (suc (suc (suc (suc (suc (suc (suc (suc (suc (suc (suc (suc (suc zero)))))))))))))) w a0 a1 a2 a3 a8 a12 a13 a16 a17 e = absurd (no_cons _ _ e)
-leaf_unknown (suc (suc (suc (suc (suc (suc (suc (suc (suc (suc (suc (suc (suc (suc (suc zero))))))))))))))) w a0 a1 a2 a3 a8 a12 a13 a16 a17 e = absurd (no_cons _ _ e)
-leaf_unknown (suc (suc (suc (suc (suc (suc (suc (suc (suc (suc (suc (suc (suc (suc (suc (suc zero)))))))))))))))) w a0 a1 a2 a3 a8 a12 a13 a16 a17 e = absurd (a16 refl)
-leaf_unknown (suc (suc (suc (suc (suc (suc (suc (suc (suc (suc (suc (suc (suc (suc (suc (suc (suc zero))))))))))))))))) w a0 a1 a2 a3 a8 a12 a13 a16 a17 e = absurd (a17 refl)
-leaf_unknown (suc (suc (suc (suc (suc (suc (suc (suc (suc (suc (suc (suc (suc (suc (suc (suc (suc (suc k)))))))))))))))))) w a0 a1 a2 a3 a8 a12 a13 a16 a17 e = refl
+childless IntLiteral w _ _ _ _ _ _ _ _ _ = refl
+childless BoolLiteral w _ _ _ _ _ _ _ _ _ = refl
+childless EnumLiteral w _ _ _ _ _ _ _ _ _ = refl
+childless Fact w _ _ _ _ _ _ _ _ _ = refl
+childless Sum w a4 _ _ _ _ _ _ _ _ = absurd (a4 refl)
+childless Difference w _ a5 _ _ _ _ _ _ _ = absurd (a5 refl)
+childless Product w _ _ a6 _ _ _ _ _ _ = absurd (a6 refl)
+childless Comparison w _ _ _ a7 _ _ _ _ _ = absurd (a7 refl)
+childless Present w _ _ _ _ _ _ _ _ _ = refl
+childless And w _ _ _ _ a9 _ _ _ _ = absurd (a9 refl)
+childless Or w _ _ _ _ _ a10 _ _ _ = absurd (a10 refl)
+childless Not w _ _ _ _ _ _ a11 _ _ = absurd (a11 refl)
+childless MoneyLiteral w _ _ _ _ _ _ _ _ _ = refl
+childless DurationLiteral w _ _ _ _ _ _ _ _ _ = refl
+childless ForAll w _ _ _ _ _ _ _ a14 _ = absurd (a14 refl)
+childless Exists w _ _ _ _ _ _ _ _ a15 = absurd (a15 refl)
+childless Length w _ _ _ _ _ _ _ _ _ = refl
+childless Element w _ _ _ _ _ _ _ _ _ = refl
 
-pub leaf_rest : (k : ℕ) (g : Given) → (k ≡ 0 → ⊥) → (k ≡ 1 → ⊥) → (k ≡ 2 → ⊥) → (k ≡ 3 → ⊥) → (k ≡ 8 → ⊥) → (k ≡ 12 → ⊥) → (k ≡ 13 → ⊥) → (k ≡ 16 → ⊥) → (k ≡ 17 → ⊥)
-    → (row_of k).children g.words ≡ [] → bad ≡ judged (row_of k) g
-leaf_rest k g a0 a1 a2 a3 a8 a12 a13 a16 a17 e = rw (leaf_unknown k g.words a0 a1 a2 a3 a8 a12 a13 a16 a17 e) (refused unknown g refl)
-
--- a node with children is of another kind
-pub parent_rest : (k : ℕ) (w : Words) → (k ≡ 4 → ⊥) → (k ≡ 5 → ⊥) → (k ≡ 6 → ⊥) → (k ≡ 7 → ⊥) → (k ≡ 9 → ⊥) → (k ≡ 10 → ⊥) → (k ≡ 11 → ⊥) → (k ≡ 14 → ⊥) → (k ≡ 15 → ⊥)
-    → ((row_of k).children w ≡ [] → ⊥) → ⊥
-unfolding row_of
-parent_rest zero w a4 a5 a6 a7 a9 a10 a11 a14 a15 p = p refl
-parent_rest (suc zero) w a4 a5 a6 a7 a9 a10 a11 a14 a15 p = p refl
-parent_rest (suc (suc zero)) w a4 a5 a6 a7 a9 a10 a11 a14 a15 p = p refl
-parent_rest (suc (suc (suc zero))) w a4 a5 a6 a7 a9 a10 a11 a14 a15 p = p refl
-parent_rest (suc (suc (suc (suc zero)))) w a4 a5 a6 a7 a9 a10 a11 a14 a15 p = a4 refl
-parent_rest (suc (suc (suc (suc (suc zero))))) w a4 a5 a6 a7 a9 a10 a11 a14 a15 p = a5 refl
-parent_rest (suc (suc (suc (suc (suc (suc zero)))))) w a4 a5 a6 a7 a9 a10 a11 a14 a15 p = a6 refl
-parent_rest (suc (suc (suc (suc (suc (suc (suc zero))))))) w a4 a5 a6 a7 a9 a10 a11 a14 a15 p = a7 refl
-parent_rest (suc (suc (suc (suc (suc (suc (suc (suc zero)))))))) w a4 a5 a6 a7 a9 a10 a11 a14 a15 p = p refl
-parent_rest (suc (suc (suc (suc (suc (suc (suc (suc (suc zero))))))))) w a4 a5 a6 a7 a9 a10 a11 a14 a15 p = a9 refl
-parent_rest (suc (suc (suc (suc (suc (suc (suc (suc (suc (suc zero)))))))))) w a4 a5 a6 a7 a9 a10 a11 a14 a15 p = a10 refl
-parent_rest (suc (suc (suc (suc (suc (suc (suc (suc (suc (suc (suc zero))))))))))) w a4 a5 a6 a7 a9 a10 a11 a14 a15 p = a11 refl
-parent_rest (suc (suc (suc (suc (suc (suc (suc (suc (suc (suc (suc (suc zero)))))))))))) w a4 a5 a6 a7 a9 a10 a11 a14 a15 p = p refl
-parent_rest (suc (suc (suc (suc (suc (suc (suc (suc (suc (suc (suc (suc (suc zero))))))))))))) w a4 a5 a6 a7 a9 a10 a11 a14 a15 p = p refl
-parent_rest (suc (suc (suc (suc (suc (suc (suc (suc (suc (suc (suc (suc (suc (suc zero)))))))))))))) w a4 a5 a6 a7 a9 a10 a11 a14 a15 p = a14 refl
-parent_rest (suc (suc (suc (suc (suc (suc (suc (suc (suc (suc (suc (suc (suc (suc (suc zero))))))))))))))) w a4 a5 a6 a7 a9 a10 a11 a14 a15 p = a15 refl
-parent_rest (suc (suc (suc (suc (suc (suc (suc (suc (suc (suc (suc (suc (suc (suc (suc (suc zero)))))))))))))))) w a4 a5 a6 a7 a9 a10 a11 a14 a15 p = p refl
-parent_rest (suc (suc (suc (suc (suc (suc (suc (suc (suc (suc (suc (suc (suc (suc (suc (suc (suc zero))))))))))))))))) w a4 a5 a6 a7 a9 a10 a11 a14 a15 p = p refl
-parent_rest (suc (suc (suc (suc (suc (suc (suc (suc (suc (suc (suc (suc (suc (suc (suc (suc (suc (suc k)))))))))))))))))) w a4 a5 a6 a7 a9 a10 a11 a14 a15 p = p refl
-
--- past the quantifiers none has
-pub leaf_past : (k : ℕ) (w : Words) → 16 ≤ k → [] ≡ (row_of k).children w
-unfolding row_of
-leaf_past zero w l = absurd (omega arith)
-leaf_past (suc zero) w l = absurd (omega arith)
-leaf_past (suc (suc zero)) w l = absurd (omega arith)
-leaf_past (suc (suc (suc zero))) w l = absurd (omega arith)
-leaf_past (suc (suc (suc (suc zero)))) w l = absurd (omega arith)
-leaf_past (suc (suc (suc (suc (suc zero))))) w l = absurd (omega arith)
-leaf_past (suc (suc (suc (suc (suc (suc zero)))))) w l = absurd (omega arith)
-leaf_past (suc (suc (suc (suc (suc (suc (suc zero))))))) w l = absurd (omega arith)
-leaf_past (suc (suc (suc (suc (suc (suc (suc (suc zero)))))))) w l = absurd (omega arith)
-leaf_past (suc (suc (suc (suc (suc (suc (suc (suc (suc zero))))))))) w l = absurd (omega arith)
-leaf_past (suc (suc (suc (suc (suc (suc (suc (suc (suc (suc zero)))))))))) w l = absurd (omega arith)
-leaf_past (suc (suc (suc (suc (suc (suc (suc (suc (suc (suc (suc zero))))))))))) w l = absurd (omega arith)
-leaf_past (suc (suc (suc (suc (suc (suc (suc (suc (suc (suc (suc (suc zero)))))))))))) w l = absurd (omega arith)
-leaf_past (suc (suc (suc (suc (suc (suc (suc (suc (suc (suc (suc (suc (suc zero))))))))))))) w l = absurd (omega arith)
-leaf_past (suc (suc (suc (suc (suc (suc (suc (suc (suc (suc (suc (suc (suc (suc zero)))))))))))))) w l = absurd (omega arith)
-leaf_past (suc (suc (suc (suc (suc (suc (suc (suc (suc (suc (suc (suc (suc (suc (suc zero))))))))))))))) w l = absurd (omega arith)
-leaf_past (suc (suc (suc (suc (suc (suc (suc (suc (suc (suc (suc (suc (suc (suc (suc (suc zero)))))))))))))))) w l = refl
-leaf_past (suc (suc (suc (suc (suc (suc (suc (suc (suc (suc (suc (suc (suc (suc (suc (suc (suc zero))))))))))))))))) w l = refl
-leaf_past (suc (suc (suc (suc (suc (suc (suc (suc (suc (suc (suc (suc (suc (suc (suc (suc (suc (suc k)))))))))))))))))) w l = refl
-
--- so it names no single fact, no length and no element, and cites no rule
-pub parent_other : (k : ℕ) (w : Words) → ((row_of k).children w ≡ [] → ⊥) → (k ≡ 3 → ⊥) × (k ≡ 8 → ⊥)
+-- a node with children names no single fact and cites no rule
+pub parent_other : (k : ℕ) (w : Record ℤ) → ((row_of k).children w ≡ [] → ⊥) → (k ≡ 3 → ⊥) × (k ≡ 8 → ⊥)
 unfolding row_of
 parent_other k w p = (λ e. p (rw e), λ e. p (rw e))

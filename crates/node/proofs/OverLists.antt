@@ -1,5 +1,6 @@
 -- The kinds over lists, 14 to 17: whose element a kind cites, which list it is a quantifier over, and that the list is there.
 -- Assumes nothing.
+use Rattle.std.specs.Prelude.{ℤ}
 use mathlib.Core.Path.{◌≡◌, refl}
 use mathlib.Core.Bool.{Bool, true, false, not}
 use mathlib.Core.List.{[], ◌∷◌}
@@ -8,12 +9,12 @@ use Prim.Native.Nat.{ℕ, zero, suc, ◌<◌}
 use borrow.Author.Tests.{ltb-true}
 use Rattle.tables.proofs.Bools.{tests, and_left, and_right, not_flip}
 use Rattle.signed.specs.Words.{num}
-use Rattle.words.specs.declared.Words.{Words}
+use Rattle.words.specs.declared.Record.{Record}
 use Rattle.node.specs.declared.Given.{Given}
 use Rattle.node.specs.Rows.{row_of, names_fact}
 
 -- but for the quantifiers and the element, no kind cites an element or is a quantifier
-pub unscoped : (k : ℕ) → (k ≡ 14 → ⊥) → (k ≡ 15 → ⊥) → (k ≡ 17 → ⊥) → (w : Words) → ((row_of k).elements w ≡ []) × ((row_of k).binds w ≡ [])
+pub unscoped : (k : ℕ) → (k ≡ 14 → ⊥) → (k ≡ 15 → ⊥) → (k ≡ 17 → ⊥) → (w : Record ℤ) → ((row_of k).elements w ≡ []) × ((row_of k).binds w ≡ [])
 unfolding row_of
 unscoped zero a b c w = (refl, refl)
 unscoped (suc zero) a b c w = (refl, refl)
@@ -36,14 +37,14 @@ unscoped (suc (suc (suc (suc (suc (suc (suc (suc (suc (suc (suc (suc (suc (suc (
 unscoped (suc (suc (suc (suc (suc (suc (suc (suc (suc (suc (suc (suc (suc (suc (suc (suc (suc (suc k)))))))))))))))))) a b c w = (refl, refl)
 
 -- a quantifier's list and body
-pub binder : (k : ℕ) → (k ≡ 14) ⊎ (k ≡ 15) → (w : Words)
+pub binder : (k : ℕ) → (k ≡ 14) ⊎ (k ≡ 15) → (w : Record ℤ)
     → ((row_of k).binds w ≡ (num w.w1 ∷ [])) × ((row_of k).elements w ≡ []) × ((row_of k).children w ≡ (num w.w2 ∷ []))
 unfolding row_of
 binder k (inl e) w = rw e (refl, refl, refl)
 binder k (inr e) w = rw e (refl, refl, refl)
 
 -- an element's list
-pub citer : (k : ℕ) → k ≡ 17 → (w : Words) → ((row_of k).elements w ≡ (num w.w1 ∷ [])) × ((row_of k).binds w ≡ []) × ((row_of k).children w ≡ [])
+pub citer : (k : ℕ) → k ≡ 17 → (w : Record ℤ) → ((row_of k).elements w ≡ (num w.w1 ∷ [])) × ((row_of k).binds w ≡ []) × ((row_of k).children w ≡ [])
 unfolding row_of
 citer k e w = rw e (refl, refl, refl)
 

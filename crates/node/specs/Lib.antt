@@ -1,3 +1,4 @@
+pub mod Kinds
 pub mod FactTypes
 pub mod FactValues
 pub mod Rows

@@ -4,7 +4,7 @@ use Rattle.std.specs.Prelude.{ℕ, ◌+◌, ℤ, pos, neg_ℤ, ◌+ℤ◌, ◌-�
 use Rattle.tables.specs.Lists.{all_of, any_of}
 use Rattle.signed.specs.Words.{eq_z, within, bounded, big, num}
 use Rattle.signed.specs.Compare.{holds}
-use Rattle.words.specs.declared.Words.{Words}
+use Rattle.words.specs.declared.Record.{Record}
 use Rattle.words.specs.Record.{numbers_of, unused}
 use Rattle.item.specs.declared.Item.{Item}
 use Rattle.item.specs.Sorts.{is_number}
@@ -15,7 +15,7 @@ use Rattle.node.specs.FactValues.{FactValue, no_value, value_in, elements_in}
 -- what a node's value is worked out from: its words, the facts, the verdicts, the element at which it is asked for, and the converted values of
 -- its children there, 0 where there is none; of the first child also its value at any element
 pub record Seen : Type 0 where
-  pub words : Words
+  pub words : Record ℤ
   pub facts : List FactValue
   pub verdicts : List ℤ
   pub element : ℤ
@@ -25,10 +25,10 @@ pub record Seen : Type 0 where
 
 pub record Row : Type 0 where
   pub used : ℕ  -- how many words it has; the others are 0
-  pub children : Words → List ℕ  -- the nodes that it names
-  pub cites : Words → List ℕ  -- the rules that it cites
-  pub elements : Words → List ℕ  -- the lists whose element it cites
-  pub binds : Words → List ℕ  -- the list that it is a quantifier over
+  pub children : Record ℤ → List ℕ  -- the nodes that it names
+  pub cites : Record ℤ → List ℕ  -- the rules that it cites
+  pub elements : Record ℤ → List ℕ  -- the lists whose element it cites
+  pub binds : Record ℤ → List ℕ  -- the list that it is a quantifier over
   pub takes : Given → Bool  -- its words are in their ranges, what it names exists, its children are of the types that it takes
   pub gives : Given → Item  -- its type and value range
   pub decides : ℤ → Bool  -- the first child's value is the node's, whatever the second is
@@ -44,7 +44,7 @@ is_true x = eq_z x (pos 1)
 -- ---- makers of rows
 
 -- a node without children
-abbrev pub leaf : ℕ → (Words → List ℕ) → (Given → Bool) → (Given → Item) → (Seen → ℤ) → Row
+abbrev pub leaf : ℕ → (Record ℤ → List ℕ) → (Given → Bool) → (Given → Item) → (Seen → ℤ) → Row
 leaf used cites takes gives value =
     record {
       used = used;

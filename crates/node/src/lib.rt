@@ -1,17 +1,18 @@
-// A node by its kind: one arm for each of the kinds 0 to 17, as its row in specs/Rows.antt says.
+// A node by its kind, as the kind's row in specs/Rows.antt says.
 #![tactic(auto)]
 
-ghost use Rattle.std.specs.Prelude.{◌≡◌, ◌&&◌, [], ◌∷◌, ◌≤◌};
-ghost use Rattle.signed.specs.Words.{num as word_number};
+ghost use Rattle.std.specs.Prelude.{◌≡◌, true, cond, ◌&&◌, [], ◌∷◌, ◌≤◌};
+ghost use Rattle.signed.specs.Compare.{operator_number};
 ghost use Rattle.item.specs.Sorts.{is_number};
 ghost use Rattle.item.specs.Items.{small as small_item};
 ghost use Rattle.words.specs.Record.{numbers_of, unused as unused_words};
+ghost use Rattle.node.specs.Kinds.{kind_number, Decodes};
 ghost use Rattle.node.specs.Rows as rows;
 ghost use Rattle.node.specs.Judged as judged;
 
-use item::{Item, both, compared, difference, either, multiple, negation, small, span, sum};
-use signed::{num, within};
-use words::{Words, numbers_of, unused};
+use item::Item;
+use signed::{Comparison, bounded, num, within};
+use words::Record;
 
 // The fact that a node names: the type and range of its value or, where it is a list, of its elements, and the list's largest length.
 #[derive(Clone, Copy)]
@@ -25,7 +26,7 @@ pub struct Named {
 // children, converted.
 #[derive(Clone, Copy)]
 pub struct Given {
-    pub words: Words,
+    pub words: Record<i64>,
     pub facts: usize,
     pub rules: usize,
     pub fact: Named,
@@ -33,36 +34,69 @@ pub struct Given {
     pub y: Item,
 }
 
-// Whether a node is good, and if so its type and range.
+// The kinds of nodes, which have the numbers 0 to 17.
 #[derive(Clone, Copy)]
-pub struct Judgement {
-    pub good: bool,
-    pub item: Item,
+pub enum Kind {
+    IntLiteral,
+    BoolLiteral,
+    EnumLiteral,
+    Fact,
+    Sum,
+    Difference,
+    Product,
+    Comparison,
+    Present,
+    And,
+    Or,
+    Not,
+    MoneyLiteral,
+    DurationLiteral,
+    ForAll,
+    Exists,
+    Length,
+    Element,
 }
 
-// The children that a node names: how many, and the first two.
+// A number that is no kind's.
 #[derive(Clone, Copy)]
-pub struct Kids {
-    pub count: usize,
-    pub first: usize,
-    pub second: usize,
-}
+pub struct UnknownKind(pub usize);
 
-pub fn bad() -> Judgement
-    ensures { result ≡ judged.bad }
-{
-    let item = span(0, 0, 0);
-    Judgement { good: false, item }
-}
+impl TryFrom<usize> for Kind {
+    type Error = UnknownKind;
 
-fn keep(good: bool, item: Item) -> Judgement
-    ensures { result ≡ judged.keep good item }
-{
-    if good {
-        Judgement { good: true, item }
-    } else {
-        bad()
+    ghost try_from_gives = { Decodes };
+
+    fn try_from(n: usize) -> Result<Self, UnknownKind> {
+        match n {
+            0 => Ok(Kind::IntLiteral),
+            1 => Ok(Kind::BoolLiteral),
+            2 => Ok(Kind::EnumLiteral),
+            3 => Ok(Kind::Fact),
+            4 => Ok(Kind::Sum),
+            5 => Ok(Kind::Difference),
+            6 => Ok(Kind::Product),
+            7 => Ok(Kind::Comparison),
+            8 => Ok(Kind::Present),
+            9 => Ok(Kind::And),
+            10 => Ok(Kind::Or),
+            11 => Ok(Kind::Not),
+            12 => Ok(Kind::MoneyLiteral),
+            13 => Ok(Kind::DurationLiteral),
+            14 => Ok(Kind::ForAll),
+            15 => Ok(Kind::Exists),
+            16 => Ok(Kind::Length),
+            17 => Ok(Kind::Element),
+            18.. => Err(UnknownKind(n)),
+        }
     }
+}
+
+// The children that a node names.
+#[derive(Clone, Copy)]
+pub enum Kids {
+    Zero,
+    One(usize),
+    Two(usize, usize),
 }
 
 // Whether a type is Int, Money or Duration.
@@ -84,31 +118,42 @@ fn bools(x: Item, y: Item) -> bool
     (x.sort == 0) & (y.sort == 0)
 }
 
-fn comparable(op: usize, x: Item, y: Item) -> bool
-    ensures { result ≡ rows.comparable op x y }
+// = and ≠ take two of one type, the others two numbers.
+fn comparable(op: Comparison, x: Item, y: Item) -> bool
+    ensures { result ≡ rows.comparable (operator_number op) x y }
 {
-    (op <= 5) & (x.sort == y.sort) & ((op < 2) | is_number(x.sort))
+    let any = matches!(op, Comparison::Equal | Comparison::Unequal);
+    (x.sort == y.sort) & (any | is_number(x.sort))
 }
 
 // The node of item x, where its words past `used` are 0, its kind takes what it is given, and x lies in −M..M.
-fn checked(used: usize, g: Given, takes: bool, x: Item) -> Judgement
+#[tactic(auto, unfolding(crate::specs::Judged::keep))]
+fn checked(used: usize, g: Given, takes: bool, x: Item) -> Option<Item>
     ensures { result ≡ judged.keep (unused_words used (numbers_of g.words) && takes && small_item x) x }
 {
     let w = g.words;
-    keep(unused(used, numbers_of(w)) & takes & small(x), x)
+    if w.numbers().unused(used) & takes & x.small() {
+        Some(x)
+    } else {
+        None
+    }
 }
 
-fn literal(g: Given, used: usize, low: i64, high: i64, t: usize, m: usize) -> Judgement
+fn literal(g: Given, used: usize, low: i64, high: i64, t: usize, m: usize) -> Option<Item>
     requires { (t ≤ 258) × (m ≤ 127) }
     ensures { result ≡ judged.judged (rows.literal used low high t m) g }
 {
     let w = g.words;
     let part = num(w.w2);
-    if part <= m {
-        checked(used, g, within(low, w.w1, high), span(t + part, w.w1, w.w1))
-    } else {
-        bad()
+    if m < part {
+        return None;
     }
+    let x = Item {
+        sort: t + part,
+        low: w.w1,
+        high: w.w1,
+    };
+    checked(used, g, within(low, w.w1, high), x)
 }
 
 // Whether there is a fact of the number in word 1.
@@ -127,245 +172,108 @@ fn names_list(g: Given) -> bool
     names_fact(g) & f.list
 }
 
-fn fact_named(g: Given) -> Judgement
-    ensures { result ≡ judged.judged rows.fact_named g }
-{
-    let f = g.fact;
-    let x = f.item;
-    checked(2, g, names_fact(g) & !f.list, x)
-}
-
-fn sums(g: Given) -> Judgement
-    requires { judged.SmallKids g }
-    ensures { result ≡ judged.judged rows.sums g }
-{
-    let x = g.x;
-    let y = g.y;
-    checked(3, g, numbers(x, y), sum(x, y))
-}
-
-fn differences(g: Given) -> Judgement
-    requires { judged.SmallKids g }
-    ensures { result ≡ judged.judged rows.differences g }
-{
-    let x = g.x;
-    let y = g.y;
-    checked(3, g, numbers(x, y), difference(x, y))
-}
-
-fn product(g: Given) -> Judgement
+#[tactic(auto, unfolding(crate::specs::Judged::judged, crate::specs::Rows::fits))]
+fn product(g: Given) -> Option<Item>
     requires { judged.SmallKids g }
     ensures { result ≡ judged.judged rows.product g }
 {
     let w = g.words;
     let x = g.x;
-    if within(-1_000_000_000, w.w2, 1_000_000_000) {
-        checked(3, g, x.sort == 1, multiple(w.w2, x))
+    if bounded(w.w2) {
+        checked(3, g, x.sort == 1, x.multiple(w.w2))
     } else {
-        bad()
+        None
     }
 }
 
-fn comparison(g: Given) -> Judgement
+#[tactic(auto, unfolding(crate::specs::Judged::judged, crate::specs::Rows::fits))]
+fn comparison(g: Given) -> Option<Item>
     requires { judged.SmallKids g }
     ensures { result ≡ judged.judged rows.comparison g }
 {
     let w = g.words;
     let x = g.x;
     let y = g.y;
-    let op = num(w.w1);
-    checked(4, g, comparable(op, x, y), compared(op, x, y))
+    match Comparison::try_from(num(w.w1)) {
+        Ok(op) => checked(4, g, comparable(op, x, y), x.compared(op, y)),
+        Err(_) => None,
+    }
 }
 
-fn present(g: Given) -> Judgement
-    ensures { result ≡ judged.judged rows.present g }
+// A node that has no children. Apart from the others, for speed: half of a sheet's nodes have none.
+#[tactic(auto, unfolding(crate::specs::Judged::judged, crate::specs::Rows::fits, crate::specs::Rows::row_of))]
+pub fn judge_leaf(k: Kind, g: Given) -> Option<Item>
+    requires { (rows.row_of (kind_number k)).children g.words ≡ [] }
+    ensures { result ≡ judged.judged (rows.row_of (kind_number k)) g }
 {
     let w = g.words;
-    checked(2, g, num(w.w1) < g.rules, span(0, 0, 1))
-}
-
-fn conjunction(g: Given) -> Judgement
-    requires { judged.SmallKids g }
-    ensures { result ≡ judged.judged rows.conjunction g }
-{
-    let x = g.x;
-    let y = g.y;
-    checked(3, g, bools(x, y), both(x, y))
-}
-
-fn disjunction(g: Given) -> Judgement
-    requires { judged.SmallKids g }
-    ensures { result ≡ judged.judged rows.disjunction g }
-{
-    let x = g.x;
-    let y = g.y;
-    checked(3, g, bools(x, y), either(x, y))
-}
-
-fn negated(g: Given) -> Judgement
-    requires { judged.SmallKids g }
-    ensures { result ≡ judged.judged rows.negated g }
-{
-    let x = g.x;
-    checked(2, g, x.sort == 0, negation(x))
-}
-
-// "For all" and "exists" are judged alike.
-fn quantifier(g: Given) -> Judgement
-    ensures { result ≡ judged.judged rows.for_all g }
-{
-    let x = g.x;
-    checked(3, g, names_list(g) & (x.sort == 0), span(0, 0, 1))
-}
-
-fn list_length(g: Given) -> Judgement
-    ensures { result ≡ judged.judged rows.list_length g }
-{
     let f = g.fact;
-    checked(2, g, names_list(g), span(1, 0, f.most))
-}
-
-fn list_element(g: Given) -> Judgement
-    ensures { result ≡ judged.judged rows.list_element g }
-{
-    let f = g.fact;
-    let x = f.item;
-    checked(2, g, names_list(g), x)
-}
-
-// A node of kind number k that has no children. Apart from the others, for speed: half of a sheet's nodes have none.
-pub fn judge_leaf(k: usize, g: Given) -> Judgement
-    requires { (rows.row_of k).children g.words ≡ [] }
-    ensures { result ≡ judged.judged (rows.row_of k) g }
-{
     match k {
-        0 => literal(g, 2, -1_000_000_000, 1_000_000_000, 1, 0),
-        1 => literal(g, 2, 0, 1, 0, 0),
-        2 => literal(g, 3, 0, 255, 2, 127),
-        3 => fact_named(g),
-        4..=7 => bad(),
-        8 => present(g),
-        9..=11 => bad(),
-        12 => literal(g, 3, -1_000_000_000, 1_000_000_000, 130, 127),
-        13 => literal(g, 3, -1_000_000_000, 1_000_000_000, 258, 3),
-        14..=15 => bad(),
-        16 => list_length(g),
-        17 => list_element(g),
-        18.. => bad(),
+        Kind::IntLiteral => literal(g, 2, -1_000_000_000, 1_000_000_000, 1, 0),
+        Kind::BoolLiteral => literal(g, 2, 0, 1, 0, 0),
+        Kind::EnumLiteral => literal(g, 3, 0, 255, 2, 127),
+        Kind::Fact => checked(2, g, names_fact(g) & !f.list, f.item),
+        Kind::Present => checked(2, g, num(w.w1) < g.rules, Item::TRUTH),
+        Kind::MoneyLiteral => literal(g, 3, -1_000_000_000, 1_000_000_000, 130, 127),
+        Kind::DurationLiteral => literal(g, 3, -1_000_000_000, 1_000_000_000, 258, 3),
+        Kind::Length => {
+            let x = Item {
+                sort: 1,
+                low: 0,
+                high: f.most,
+            };
+            checked(2, g, names_list(g), x)
+        }
+        Kind::Element => checked(2, g, names_list(g), f.item),
+        _ => None,
     }
 }
 
-// A node of kind number k that has children, whose ranges lie in −M..M.
-fn judge_by_kind(k: usize, g: Given) -> Judgement
-    requires { judged.SmallKids g × ((rows.row_of k).children g.words ≡ [] → ⊥) }
-    ensures { result ≡ judged.judged (rows.row_of k) g }
-{
-    match k {
-        0..=3 => bad(),
-        4 => sums(g),
-        5 => differences(g),
-        6 => product(g),
-        7 => comparison(g),
-        8 => bad(),
-        9 => conjunction(g),
-        10 => disjunction(g),
-        11 => negated(g),
-        12..=13 => bad(),
-        14 => quantifier(g),
-        15 => quantifier(g),
-        16.. => bad(),
-    }
-}
-
-// A node of kind number k that has children.
-pub fn judge_parent(k: usize, g: Given) -> Judgement
-    requires { (rows.row_of k).children g.words ≡ [] → ⊥ }
-    ensures { result ≡ judged.judged_parent (rows.row_of k) g }
+// A node that has children, whose ranges lie in −M..M. "For all" and "exists" are judged alike.
+#[tactic(auto, unfolding(crate::specs::Judged::judged, crate::specs::Rows::fits, crate::specs::Rows::row_of))]
+fn judge_by_kind(k: Kind, g: Given) -> Option<Item>
+    requires { judged.SmallKids g × ((rows.row_of (kind_number k)).children g.words ≡ [] → ⊥) }
+    ensures { result ≡ judged.judged (rows.row_of (kind_number k)) g }
 {
     let x = g.x;
     let y = g.y;
-    if small(x) & small(y) {
+    match k {
+        Kind::Sum => checked(3, g, numbers(x, y), x.sum(y)),
+        Kind::Difference => checked(3, g, numbers(x, y), x.difference(y)),
+        Kind::Product => product(g),
+        Kind::Comparison => comparison(g),
+        Kind::And => checked(3, g, bools(x, y), x.both(y)),
+        Kind::Or => checked(3, g, bools(x, y), x.either(y)),
+        Kind::Not => checked(2, g, x.sort == 0, x.negation()),
+        Kind::ForAll | Kind::Exists => checked(3, g, names_list(g) & (x.sort == 0), Item::TRUTH),
+        _ => None,
+    }
+}
+
+// A node that has children.
+pub fn judge_parent(k: Kind, g: Given) -> Option<Item>
+    requires { (rows.row_of (kind_number k)).children g.words ≡ [] → ⊥ }
+    ensures { result ≡ judged.judged_parent (rows.row_of (kind_number k)) g }
+{
+    let x = g.x;
+    let y = g.y;
+    if x.small() & y.small() {
         judge_by_kind(k, g)
     } else {
-        bad()
+        None
     }
 }
 
-fn no_kids() -> Kids
-    ensures { judged.kids result ≡ [] }
-{
-    Kids {
-        count: 0,
-        first: 0,
-        second: 0,
-    }
-}
-
-// The child in word 1.
-fn one_kid(w: Words) -> Kids
-    ensures { judged.kids result ≡ (word_number w.w1 ∷ []) }
-{
-    Kids {
-        count: 1,
-        first: num(w.w1),
-        second: 0,
-    }
-}
-
-// The child in word 2.
-fn later_kid(w: Words) -> Kids
-    ensures { judged.kids result ≡ (word_number w.w2 ∷ []) }
-{
-    Kids {
-        count: 1,
-        first: num(w.w2),
-        second: 0,
-    }
-}
-
-// The children in words 1 and 2.
-fn two_kids(w: Words) -> Kids
-    ensures { judged.kids result ≡ (word_number w.w1 ∷ word_number w.w2 ∷ []) }
-{
-    Kids {
-        count: 2,
-        first: num(w.w1),
-        second: num(w.w2),
-    }
-}
-
-// The children in words 2 and 3.
-fn later_kids(w: Words) -> Kids
-    ensures { judged.kids result ≡ (word_number w.w2 ∷ word_number w.w3 ∷ []) }
-{
-    Kids {
-        count: 2,
-        first: num(w.w2),
-        second: num(w.w3),
-    }
-}
-
-// The children of a node of kind number k.
-pub fn children(k: usize, w: Words) -> Kids
-    ensures { judged.kids result ≡ (rows.row_of k).children w }
+// The children of a node: the nodes that its words name.
+#[tactic(auto, unfolding(crate::specs::Rows::row_of))]
+pub fn children(k: Kind, w: Record<i64>) -> Kids
+    ensures { judged.kids result ≡ (rows.row_of (kind_number k)).children w }
 {
     match k {
-        0 => no_kids(),
-        1 => no_kids(),
-        2 => no_kids(),
-        3 => no_kids(),
-        4 => two_kids(w),
-        5 => two_kids(w),
-        6 => one_kid(w),
-        7 => later_kids(w),
-        8 => no_kids(),
-        9 => two_kids(w),
-        10 => two_kids(w),
-        11 => one_kid(w),
-        12 => no_kids(),
-        13 => no_kids(),
-        14 => later_kid(w),
-        15 => later_kid(w),
-        16.. => no_kids(),
+        Kind::Sum | Kind::Difference | Kind::And | Kind::Or => Kids::Two(num(w.w1), num(w.w2)),
+        Kind::Product | Kind::Not => Kids::One(num(w.w1)),
+        Kind::Comparison => Kids::Two(num(w.w2), num(w.w3)),
+        Kind::ForAll | Kind::Exists => Kids::One(num(w.w2)),
+        _ => Kids::Zero,
     }
 }

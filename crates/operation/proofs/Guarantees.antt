@@ -15,58 +15,44 @@ use Rattle.layout.specs.declared.Header.{Header}
 use Rattle.layout.specs.Tables.{operation, effect}
 use Rattle.records.specs.Entities.{states as state_count}
 use Rattle.records.specs.Operations.{outcome}
-use Rattle.records.proofs.OperationLaws.{Of, Declared, inside, effect_ok, entity_ok}
-use Rattle.operation.specs.declared.Choice.{Choice}
-use Rattle.operation.specs.declared.Choice.TheVariants.{Outcome, Nothing, Several}
+use Rattle.records.proofs.OperationLaws.{Of, Declared, inside, effect_ok, entity_ok, operation_ok}
+use Rattle.answer.specs.Answers.{Count}
+use Rattle.answer.specs.Inner.{Small}
+use Rattle.answer.specs.declared.Refusal.{Refusal}
+use Rattle.std.specs.Prelude.{Option, Ok, Err}
 use Rattle.operation.specs.States.{present}
 use Rattle.operation.specs.Inner.{StatesIn, about, after, performed}
-use Rattle.operation.specs.declared.Wanted.{Wanted}
 use Rattle.operation.specs.Outcomes.{of_outcome, moves, matched, unblocked, applicable, blocker, chosen}
 use Rattle.operation.specs.Changes.{new_state, applied}
 use Rattle.operation.specs.Ready.{Ready}
 use Rattle.operation.proofs.Blockers.{free_matched, matched_free, blocker_small}
-use Rattle.operation.proofs.Choices.{chosen_applies, nothing_place}
+use Rattle.operation.proofs.Choices.{chosen_applies, by_choice}
 use Rattle.operation.proofs.Movers.{Moves, moves_true, true_moves, stays, goes, length_applied, applied_at}
 
 -- ---- the states, choice by choice
 
-module _ (s : List ℤ) (h : Header) (states : List ℤ) (o : ℕ) (w : Wanted) where
+module _ (s : List ℤ) (h : Header) (states : List ℤ) (o : ℕ) (w : Option ℕ) where
   -- a chosen outcome is one of the operation's
-  pub chosen_exists : (j : ℕ) → chosen s h states o w ≡ Outcome j → j < (operation s h o).w4
+  pub chosen_exists : (j : ℕ) → chosen s h states o w ≡ Ok j → j < (operation s h o).w4
   unfolding chosen
   chosen_exists j p = (chosen_applies (applicable s h states o) (blocker s h states o) (operation s h o).w4 w j p).0
 
-  pub performed_by : (j : ℕ) → chosen s h states o w ≡ Outcome j → performed s h states o w ≡ applied s h states o j
+  pub performed_by : (j : ℕ) → chosen s h states o w ≡ Ok j → performed s h states o w ≡ applied s h states o j
   unfolding performed after
   performed_by j p = rw p
 
-  -- where nothing is chosen, nothing changes
-  pub performed_none : (b : ℕ) → chosen s h states o w ≡ Nothing b → performed s h states o w ≡ states
+  -- where none is chosen, nothing changes
+  pub performed_none : (r : Refusal) → chosen s h states o w ≡ Err r → performed s h states o w ≡ states
   unfolding performed after
-  performed_none b p = rw p
+  performed_none r p = rw p
 
-  pub performed_several : chosen s h states o w ≡ Several → performed s h states o w ≡ states
-  unfolding performed after
-  performed_several p = rw p
-
-  -- the code's choice r is the definition's, and the states that it leaves are those of the choice
-  pub with_outcome : (r : Choice) (j : ℕ) (end : List ℤ) → r ≡ Outcome j → r ≡ chosen s h states o w → end ≡ applied s h states o j
-      → (Outcome j ≡ chosen s h states o w) × (end ≡ performed s h states o w)
-  with_outcome r j end p q e = (sym p ∙ q, e ∙ sym (performed_by j (sym q ∙ p)))
-
-  pub with_none : (r : Choice) (b : ℕ) → r ≡ Nothing b → r ≡ chosen s h states o w
-      → (r ≡ chosen s h states o w) × (states ≡ performed s h states o w)
-  with_none r b p q = (q, sym (performed_none b (sym q ∙ p)))
-
-  pub with_several : (r : Choice) → r ≡ Several → r ≡ chosen s h states o w → (r ≡ chosen s h states o w) × (states ≡ performed s h states o w)
-  with_several r p q = (q, sym (performed_several (sym q ∙ p)))
-
--- where nothing is chosen, the place is below the most entities that there may be
-pub place_small : {s : List ℤ} {h : Header} {states : List ℤ} {o : ℕ} → Ready s h states o → (w : Wanted) (n : ℕ) → chosen s h states o w ≡ Nothing n
-    → n < 32
+-- a chosen outcome, and the place where none is chosen, fit a signed word
+pub chosen_small : {s : List ℤ} {h : Header} {states : List ℤ} {o : ℕ} → Ready s h states o → (w : Option ℕ)
+    → Small (λ n. (n, 0)) (chosen s h states o w)
 unfolding chosen
-place_small {s} {h} {states} {o} r w n p =
-    rw (nothing_place (applicable s h states o) (blocker s h states o) (operation s h o).w4 w n p) (blocker_small r (about w))
+chosen_small {s} {h} {states} {o} r w =
+    by_choice (applicable s h states o) (blocker s h states o) (operation s h o).w4 w (Small (λ n. (n, 0)))
+    (λ j l. (omega (arith, (operation_ok r.accepted o r.exists).outcomes_few), omega arith)) (omega (arith, blocker_small r (about w))) (omega arith)
 
 -- ---- what applicable means
 
@@ -117,8 +103,8 @@ pub data Fate (s : List ℤ) (h : Header) (states : List ℤ) (o j n : ℕ) (sta
   unmoved : ((e : ℕ) → Moves s h states o j n e → ⊥) → state ≡ get_or states n (pos 0) → Fate s h states o j n state
 
 -- effect e of the chosen outcome j moves entity n from its state to another, along a declared transition
-pub record Changed (s : List ℤ) (h : Header) (states : List ℤ) (o : ℕ) (w : Wanted) (j n e : ℕ) : Type 0 where
-  pub chosen : chosen s h states o w ≡ Outcome j
+pub record Changed (s : List ℤ) (h : Header) (states : List ℤ) (o : ℕ) (w : Option ℕ) (j n e : ℕ) : Type 0 where
+  pub chosen : chosen s h states o w ≡ Ok j
   pub moves : Moves s h states o j n e
   pub transition : Declared s h (effect s h e)
   pub old : get_or states n (pos 0) ≡ pos (effect s h e).w1
@@ -150,13 +136,13 @@ module _ {s : List ℤ} {h : Header} {states : List ℤ} {o : ℕ} (w : Ready s 
             rw (q, num_of (effect s h e).w2) (rw m.entity at (effect_ok w.accepted o w.exists e m.of).change.to)
         go n l (unmoved f q) = rw q (w.lent.each n l)
 
-  module _ (wanted : Wanted) where
+  module _ (wanted : Option ℕ) where
     -- a state changes only along a declared transition that an effect of the chosen outcome names and that starts from the present state
     pub changes : (n : ℕ) → n < h.entities → (get_or (performed s h states o wanted) n (pos 0) ≡ get_or states n (pos 0) → ⊥)
         → (j : ℕ) × (e : ℕ) × Changed s h states o wanted j n e
     changes n l f = go (chosen s h states o wanted) refl
       where
-        along : (j : ℕ) → chosen s h states o wanted ≡ Outcome j → Fate s h states o j n (get_or (applied s h states o j) n (pos 0))
+        along : (j : ℕ) → chosen s h states o wanted ≡ Ok j → Fate s h states o j n (get_or (applied s h states o j) n (pos 0))
             → (j : ℕ) × (e : ℕ) × Changed s h states o wanted j n e
         along j p (unmoved g q) = absurd (f (rw (performed_by s h states o wanted j p) q))
         along j p (moved e m q) = (
@@ -171,7 +157,6 @@ module _ {s : List ℤ} {h : Header} {states : List ℤ} {o : ℕ} (w : Ready s 
           },
         )
 
-        go : (r : Choice) → chosen s h states o wanted ≡ r → (j : ℕ) × (e : ℕ) × Changed s h states o wanted j n e
-        go (Outcome j) p = along j p (fate j n l)
-        go (Nothing b) p = absurd (f (rw (performed_none s h states o wanted b p)))
-        go Several p = absurd (f (rw (performed_several s h states o wanted p)))
+        go : (r : Count) → chosen s h states o wanted ≡ r → (j : ℕ) × (e : ℕ) × Changed s h states o wanted j n e
+        go (Ok j) p = along j p (fate j n l)
+        go (Err b) p = absurd (f (rw (performed_none s h states o wanted b p)))

@@ -1,149 +1,129 @@
 -- The loop over an operation's outcomes, and what it chooses.
 -- Assumes nothing.
 use mathlib.Core.Path.{◌≡◌, refl, sym, ◌∙◌, ap}
-use mathlib.Core.Bool.{Bool, true, false, not}
+use mathlib.Core.Bool.{Bool, true, false}
 use mathlib.Core.List.{List}
 use Prim.Native.Nat.{ℕ, ◌+◌, ◌≤◌, ◌<◌}
 use lib.IntN.{ℤ}
 use lib.ListN.{get_or}
 use native.Mathlib.Omega.{arith}
-use native.Mathlib.Decide.{dec_lt}
-use borrow.Author.Tests.{not-true, not-false}
 use Rattle.tables.proofs.Scans.{all_of, all_fails}
 use Rattle.layout.specs.declared.Header.{Header}
 use Rattle.layout.specs.Tables.{operation, effect}
-use Rattle.records.proofs.OperationLaws.{inside, operation_ok}
-use Rattle.operation.specs.declared.Choice.{Choice}
-use Rattle.operation.specs.declared.Choice.TheVariants.{Nothing}
+use Rattle.records.proofs.OperationLaws.{operation_ok}
+use Rattle.answer.specs.declared.Refusal.TheVariants.{NoOutcome, ManyOutcomes}
+use Rattle.std.specs.Prelude.{Option, None, Some, Err, ok_or}
 use Rattle.operation.specs.declared.Effects.{Effects}
-use Rattle.operation.specs.declared.Wanted.{Wanted}
-use Rattle.operation.specs.Outcomes.{of_outcome, matched, unblocked, applicable, blocker, only, chosen}
+use Rattle.operation.specs.Outcomes.{of_outcome, matched, unblocked, applicable, blocker, another, only, chosen}
 use Rattle.operation.specs.Ready.{Ready}
-use Rattle.operation.specs.Inner.{about, counted, placed, noted, candidate, OutcomeAt, Collected, Read, effects_of}
-use Rattle.operation.proofs.Targets.{first_is, outcomes_is, has_flag}
-use Rattle.operation.proofs.Choices.{blocks_before, before_none, before_blocked, before_free, before_all, only_without, placed_only, not_applies, count_more, asked_only}
+use Rattle.operation.specs.Inner.{asks, about, candidate, OutcomeAt, Collected, FirstUnmatched, effects_of}
+use Rattle.operation.proofs.Targets.{first_is, outcomes_is, flagged}
+use Rattle.operation.proofs.Choices.{blocks_before, before_none, before_this, before_other, before_free, before_all, only_without, not_applies, not_asked, one_more, still_many, asked_only}
 use Rattle.operation.proofs.Blockers.{matched_free, first_blocks, applicable_blocks, none_blocks}
 
 -- the choice is made among the outcomes before j, b is what blocks the outcome asked about if that is one of them, and j starts at effect `at`
-pub record Passed (s : List ℤ) (h : Header) (states : List ℤ) (o : ℕ) (wanted : Wanted) (j at : ℕ) (choice : Choice) (b : ℕ) : Type 0 where
-  pub here : j ≤ (operation s h o).w4
+pub record Passed (s : List ℤ) (h : Header) (states : List ℤ) (o : ℕ) (wanted : Option ℕ) (j at : ℕ) (choice : Option ℕ) (b : ℕ) : Type 0 where
   pub start : OutcomeAt s h o j at
-  pub so_far : choice ≡ only (candidate (applicable s h states o) wanted) 0 j
+  pub so_far : (k : ℕ) → only (candidate (applicable s h states o) wanted) k j ≡ ok_or choice (NoOutcome k)
   pub blocked : b ≡ blocks_before (blocker s h states o) wanted j
 
--- the effects of an outcome from `at` up to e name entities that are matched; j and b are what they were
-pub record Checked (s : List ℤ) (h : Header) (flags : List Bool) (at₀ j₀ b₀ stop j b e : ℕ) : Type 0 where
-  pub same_j : j ≡ j₀
-  pub same_b : b ≡ b₀
-  pub order : at₀ ≤ e
-  pub each : (d : ℕ) → at₀ ≤ d → d < e → get_or flags (effect s h d).w0 false ≡ true
-
-pub unchecked : (s : List ℤ) (h : Header) (flags : List Bool) (at j b stop : ℕ) → Checked s h flags at j b stop j b at
-unchecked s h flags at j b stop = record { same_j = refl; same_b = refl; order = omega arith; each = λ d a b. absurd (omega arith) }
-
-pub checked_more : (s : List ℤ) (h : Header) (flags : List Bool) (at j₀ b₀ stop j b e n : ℕ) → Checked s h flags at j₀ b₀ stop j b e → e < stop
-    → n ≡ (effect s h e).w0 → not (get_or flags n false) ≡ false → Checked s h flags at j₀ b₀ stop j b (e + 1)
-checked_more s h flags at j₀ b₀ stop j b e n r l t p =
-    record {
-      same_j = r.same_j;
-      same_b = r.same_b;
-      order = omega (arith, r.order);
-      each = λ d a b. go d a b (dec_lt d e);
-    }
-  where
-    go : (d : ℕ) → at ≤ d → d < e + 1 → Dec (d < e) → get_or flags (effect s h d).w0 false ≡ true
-    go d a b (yes y) = r.each d a y
-    go d a b (no x) = let z : d ≡ e = omega arith in rw (z, ← t) (not-false _ p)
-
-module _ {s : List ℤ} {h : Header} {states : List ℤ} {o : ℕ} (w : Ready s h states o) (wanted : Wanted) where
-  pub outset : (x : Effects) → x ≡ effects_of s h o → Passed s h states o wanted 0 x.first (Nothing 0) 0
+module _ {s : List ℤ} {h : Header} {states : List ℤ} {o : ℕ} (w : Ready s h states o) (wanted : Option ℕ) where
+  pub outset : (x : Effects) → x ≡ effects_of s h o → Passed s h states o wanted 0 x.first None 0
   unfolding only
   outset x e =
       rw (first_is s h o x e)
       (record {
-        here = omega arith;
         start = record { low = omega arith; high = omega arith; before = λ e a b. absurd (omega arith); from = λ e a b. omega arith };
-        so_far = refl;
+        so_far = λ k. refl;
         blocked = sym (before_none (blocker s h states o) wanted);
       })
 
-  -- there are eight outcomes at most
-  pub few : (j at : ℕ) (choice : Choice) (b : ℕ) → Passed s h states o wanted j at choice b → j ≤ 8
-  few j at choice b r = omega (arith, r.here, (operation_ok w.accepted o w.exists).outcomes_few)
-
-  pub next_exists : (x : Effects) → x ≡ effects_of s h o → (j at : ℕ) (choice : Choice) (b : ℕ) → Passed s h states o wanted j at choice b
-      → (j ≡ x.outcomes → ⊥) → j < (operation s h o).w4
-  next_exists x e j at choice b r n = omega (arith, r.here, outcomes_is s h o x e)
+  -- what is chosen, by the outcomes that are asked for
+  by_asked : only (candidate (applicable s h states o) wanted) (blocker s h states o (about wanted)) (operation s h o).w4 ≡ chosen s h states o wanted
+  unfolding chosen
+  by_asked = asked_only (applicable s h states o) (blocker s h states o) wanted (operation s h o).w4
 
   -- all outcomes are passed
-  pub all_passed : (x : Effects) → x ≡ effects_of s h o → (j at : ℕ) (choice : Choice) (b : ℕ) → Passed s h states o wanted j at choice b
-      → j ≡ x.outcomes → placed b choice ≡ chosen s h states o wanted
-  unfolding chosen
-  all_passed x t j at choice b r l =
-      let n = (operation s h o).w4 in
-      let e : j ≡ n = l ∙ outcomes_is s h o x t in
-      let f = applicable s h states o in
+  pub all_passed : (x : Effects) → x ≡ effects_of s h o → (at : ℕ) (choice : Option ℕ) (b : ℕ) → Passed s h states o wanted x.outcomes at choice b
+      → ok_or choice (NoOutcome b) ≡ chosen s h states o wanted
+  all_passed x t at choice b r =
+      let e = outcomes_is s h o x t in
       let g = blocker s h states o in
-      let p : b ≡ g (about wanted) = r.blocked ∙ rw e (before_all g wanted n (none_blocks w (about wanted))) in
-      rw (p, r.so_far, e) (placed_only (candidate f wanted) 0 (g (about wanted)) n ∙ asked_only f g wanted n)
+      let p : b ≡ g (about wanted) = r.blocked ∙ rw e (before_all g wanted (operation s h o).w4 (none_blocks w (about wanted))) in
+      rw p (sym (r.so_far (g (about wanted))) ∙ rw e by_asked)
 
-  module _ (j at stop : ℕ) (choice : Choice) (b : ℕ) (flags : List Bool)
+  module _ (j at stop : ℕ) (choice : Option ℕ) (b : ℕ) (flags : List Bool)
       (r : Passed s h states o wanted j at choice b) (k : Collected s h states o j at stop flags) where
-    pub reads : (e : ℕ) → at ≤ e → e < stop → Read s h states e
-    reads e a b =
-        record {
-          accepted = w.accepted;
-          long = w.lent.long;
-          exists = inside w.accepted o w.exists e (record { low = omega (arith, r.start.low); high = omega (arith, k.next.high) });
-        }
-
-    pub ends_early : stop ≤ 512
-    ends_early = omega (arith, k.next.high, (operation_ok w.accepted o w.exists).end, w.accepted.sized.limits.effects)
+    pub ends_in : stop ≤ h.effects
+    ends_in = omega (arith, k.next.high, (operation_ok w.accepted o w.exists).end)
 
     flag_is : (e : ℕ) → at ≤ e → e < stop → get_or flags (effect s h e).w0 false ≡ matched s h states o j (effect s h e).w0
-    flag_is e a b = k.each (effect s h e).w0 (has_flag (reads e a b))
+    flag_is e a b = k.each (effect s h e).w0 (flagged w.accepted e (omega (arith, ends_in)))
 
     -- what is checked is not blocked
-    free : (j₁ b₁ e : ℕ) → Checked s h flags at j b stop j₁ b₁ e → (d : ℕ) → (of_outcome s h o j d ≡ true → d < e)
-        → unblocked s h states o j d ≡ true
-    free j₁ b₁ e c d l =
-        matched_free s h states o j d (λ t. let a = k.only d t in sym (flag_is d a.0 a.1) ∙ c.each d a.0 (l t))
+    free : (e : ℕ) → ((d : ℕ) → at ≤ d → d < e → get_or flags (effect s h d).w0 false ≡ true)
+        → (d : ℕ) → (of_outcome s h o j d ≡ true → d < e) → unblocked s h states o j d ≡ true
+    free e c d l =
+        matched_free s h states o j d (λ t. let a = k.only d t in sym (flag_is d a.0 a.1) ∙ c d a.0 (l t))
 
     -- an effect whose entity is not matched, all before it being so: the outcome is not applicable, and the entity is what blocks it
-    pub passed_over : (j₁ b₁ e n : ℕ) → Checked s h flags at j b stop j₁ b₁ e → e < stop → j < (operation s h o).w4
-        → n ≡ (effect s h e).w0 → not (get_or flags n false) ≡ true
-        → (x y : ℕ) → x ≡ about wanted → y ≡ noted x j₁ n b₁ → Passed s h states o wanted (j₁ + 1) stop choice y
-    unfolding applicable unblocked
-    passed_over j₁ b₁ e n c u l t p x y z v =
-        let m = sym (flag_is e c.order u) ∙ rw t at (not-true (get_or flags n false) p) in
-        let f : unblocked s h states o j e ≡ false = rw (k.inside e c.order u, m) in
-        let q = all_fails (unblocked s h states o j) h.effects e (reads e c.order u).exists f in
-        let a = first_blocks s h states o j e (reads e c.order u).exists (λ d i. free j₁ b₁ e c d (λ _. i)) f in
-        rw c.same_j
-        (record {
-          here = omega arith;
-          start = k.next;
-          so_far =
-              r.so_far
-              ∙ sym (only_without (candidate (applicable s h states o) wanted) 0 j (not_applies (applicable s h states o) wanted j q));
-          blocked = v ∙ rw (z, c.same_j, c.same_b, r.blocked) (before_blocked (blocker s h states o) wanted j n (t ∙ a));
-        })
+    module _ (n e : ℕ) (u : FirstUnmatched s h flags at stop e n) where
+      blocks_here : unblocked s h states o j e ≡ false
+      unfolding unblocked
+      blocks_here = rw (k.inside e u.low u.high, sym (flag_is e u.low u.high) ∙ rw u.entity at u.unmatched)
 
-    module _ (j₁ b₁ e : ℕ) (c : Checked s h flags at j b stop j₁ b₁ e) (g : stop ≤ e) (l : j < (operation s h o).w4) where
-      -- no such effect: the outcome is applicable
+      in_sheet : e < h.effects
+      in_sheet = omega (arith, ends_in, u.high)
+
+      blocker_is : n ≡ blocker s h states o j
+      blocker_is = u.entity ∙ first_blocks s h states o j e in_sheet (λ d i. free e u.earlier d (λ _. i)) blocks_here
+
+      not_here : applicable s h states o j ≡ false
+      unfolding applicable
+      not_here = all_fails (unblocked s h states o j) h.effects e in_sheet blocks_here
+
+      over : (x : ℕ) → x ≡ blocks_before (blocker s h states o) wanted (j + 1) → Passed s h states o wanted (j + 1) stop choice x
+      over x p =
+          record {
+            start = k.next;
+            so_far = λ i. only_without _ i j (not_applies (applicable s h states o) wanted j not_here) ∙ r.so_far i;
+            blocked = p;
+          }
+
+      pub over_this : about wanted ≡ j → Passed s h states o wanted (j + 1) stop choice n
+      over_this p = over n (before_this (blocker s h states o) wanted j n blocker_is p)
+
+      pub over_other : (about wanted ≡ j → ⊥) → Passed s h states o wanted (j + 1) stop choice b
+      over_other x = over b (r.blocked ∙ before_other (blocker s h states o) wanted j x)
+
+    -- no such effect: the outcome is applicable
+    module _ (c : (d : ℕ) → at ≤ d → d < stop → get_or flags (effect s h d).w0 false ≡ true) where
       applies : applicable s h states o j ≡ true
       unfolding applicable
-      applies = all_of (unblocked s h states o j) h.effects (λ d _. free j₁ b₁ e c d (λ t. omega (arith, (k.only d t).1)))
+      applies = all_of (unblocked s h states o j) h.effects (λ d _. free stop c d (λ t. (k.only d t).1))
 
-      pub passed_on : (x : Choice) → x ≡ counted wanted j₁ choice → Passed s h states o wanted (j₁ + 1) stop x b₁
-      passed_on x p =
-          rw c.same_j
-          (record {
-            here = omega arith;
+      on : (x : Option ℕ) → ((i : ℕ) → only (candidate (applicable s h states o) wanted) i (j + 1) ≡ ok_or x (NoOutcome i))
+          → Passed s h states o wanted (j + 1) stop x b
+      on x p =
+          record {
             start = k.next;
-            so_far =
-                p ∙ rw c.same_j (ap (counted wanted j) r.so_far ∙ count_more (applicable s h states o) wanted 0 j applies);
-            blocked =
-                c.same_b ∙ r.blocked
-                ∙ before_free (blocker s h states o) wanted j (applicable_blocks s h states o j applies);
-          })
+            so_far = p;
+            blocked = r.blocked ∙ before_free (blocker s h states o) wanted j (applicable_blocks s h states o j applies);
+          }
+
+      pub not_wanted : asks wanted j ≡ false → Passed s h states o wanted (j + 1) stop choice b
+      not_wanted p = on choice (λ i. only_without _ i j (not_asked (applicable s h states o) wanted j p) ∙ r.so_far i)
+
+      more : asks wanted j ≡ true → (i : ℕ)
+          → only (candidate (applicable s h states o) wanted) i (j + 1) ≡ another j (ok_or choice (NoOutcome i))
+      more p i = one_more (applicable s h states o) wanted i j p applies ∙ ap (another j) (r.so_far i)
+
+      pub the_first : asks wanted j ≡ true → choice ≡ None → Passed s h states o wanted (j + 1) stop (Some j) b
+      unfolding another
+      the_first p e = on (Some j) (λ i. more p i ∙ rw e)
+
+      pub the_second : asks wanted j ≡ true → (i : ℕ) → choice ≡ Some i → j < (operation s h o).w4 → Err ManyOutcomes ≡ chosen s h states o wanted
+      unfolding another
+      the_second p i e l =
+          let g = blocker s h states o (about wanted) in
+          sym (still_many _ g (j + 1) (operation s h o).w4 (omega arith) (more p g ∙ rw e)) ∙ by_asked

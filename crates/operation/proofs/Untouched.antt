@@ -11,7 +11,7 @@ use Rattle.tables.proofs.Bools.{tests, bool_cases, and_left}
 use Rattle.layout.specs.declared.Header.{Header}
 use Rattle.layout.specs.Tables.{effect}
 use Rattle.records.specs.Operations.{outcomes}
-use Rattle.operation.specs.declared.Wanted.{Wanted}
+use Rattle.std.specs.Prelude.{Option}
 use Rattle.operation.specs.Outcomes.{of_operation, of_outcome, starts, moves, matched, unblocked, applicable, blocking, blocker, choice, chosen}
 use Rattle.operation.specs.Changes.{mover, new_state, applied}
 use Rattle.operation.specs.Inner.{Agree, Untouched}
@@ -32,7 +32,7 @@ module _ (s : List ℤ) (h : Header) (o : ℕ) (a b : List ℤ) (k : Agree s h o
   unblocked_agree j = fun_ext (λ e. rw (moves_agree j (effect s h e).w0))
 
   -- so the same outcome is chosen, or the same entity blocks
-  pub chosen_agree : (w : Wanted) → chosen s h a o w ≡ chosen s h b o w
+  pub chosen_agree : (w : Option ℕ) → chosen s h a o w ≡ chosen s h b o w
   unfolding chosen applicable blocker blocking
   chosen_agree w =
       ap₂ (λ (f : ℕ → Bool) (g : ℕ → ℕ). choice f g (outcomes s h o) w)

@@ -1,6 +1,7 @@
 -- What the inner functions ask and answer. The definitions of the other files do not rest on these.
 -- Assumes nothing.
-use Rattle.std.specs.Prelude.{◌≡◌, Bool, true, false, not, cond, ◌&&◌, List, ℕ, ◌+◌, ◌≤◌, ◌<◌, ℤ, pos, length, get_or, set, eqb}
+use Rattle.std.specs.Prelude.{◌≡◌, Bool, true, false, not, cond, ◌&&◌, List, ℕ, ◌+◌, ◌≤◌, ◌<◌, ℤ, pos, length, get_or, set, eqb, Option, None, Some, Ok, Err}
+use Rattle.answer.specs.Answers.{Count}
 use Rattle.tables.specs.Inner.{marked}
 use Rattle.words.specs.declared.Record.{Record}
 use Rattle.layout.specs.declared.Header.{Header}
@@ -8,11 +9,7 @@ use Rattle.layout.specs.Tables.{operation, effect, entity_of, to_of, effect_star
 use Rattle.records.specs.Accepted.{Accepted}
 use Rattle.records.specs.Operations.{effects_end, outcome}
 use Rattle.operation.specs.declared.Effects.{Effects}
-use Rattle.operation.specs.declared.Wanted.{Wanted}
-use Rattle.operation.specs.declared.Wanted.TheVariants.{Any, One}
-use Rattle.operation.specs.Outcomes.{of_operation, of_outcome, starts, matched, another, chosen}
-use Rattle.operation.specs.declared.Choice.{Choice}
-use Rattle.operation.specs.declared.Choice.TheVariants.{Outcome, Nothing, Several}
+use Rattle.operation.specs.Outcomes.{of_operation, of_outcome, starts, matched, chosen}
 use Rattle.operation.specs.Changes.{applied}
 use Rattle.records.specs.Entities.{states as state_count}
 use Rattle.operation.specs.States.{present}
@@ -48,8 +45,16 @@ pub record Collected (s : List ℤ) (h : Header) (states : List ℤ) (o j at sto
   pub long : length flags ≡ 32
   pub each : (n : ℕ) → n < 32 → get_or flags n false ≡ matched s h states o j n
 
+-- effect e is the first from `at` up to `stop` whose entity is not flagged, and n is that entity
+pub record FirstUnmatched (s : List ℤ) (h : Header) (flags : List Bool) (at stop e n : ℕ) : Type 0 where
+  pub low : at ≤ e
+  pub high : e < stop
+  pub entity : n ≡ entity_of (effect s h e)
+  pub unmatched : get_or flags n false ≡ false
+  pub earlier : (d : ℕ) → at ≤ d → d < e → get_or flags (entity_of (effect s h d)) false ≡ true
+
 -- an effect is taken: its entity has not moved yet, and it starts from the entity's state
-unfoldable pub taken : List ℤ → List Bool → Record → Bool
+unfoldable pub taken : List ℤ → List Bool → Record ℕ → Bool
 taken states moved r = not (get_or moved (entity_of r) false) && starts states r
 
 -- effect e has been looked at: where it is taken, its entity is in the state that it leads to, and is flagged as moved
@@ -58,41 +63,26 @@ pub record Shifted (s : List ℤ) (h : Header) (e : ℕ) (states : List ℤ) (mo
   pub flag : moved' ≡ marked (taken states moved (effect s h e)) (entity_of (effect s h e)) moved
 
 -- the states after a choice
-unfoldable pub after : List ℤ → Header → List ℤ → ℕ → Choice → List ℤ
-after s h states o (Outcome j) = applied s h states o j
-after s h states o (Nothing n) = states
-after s h states o Several = states
+unfoldable pub after : List ℤ → Header → List ℤ → ℕ → Count → List ℤ
+after s h states o (Ok j) = applied s h states o j
+after s h states o (Err r) = states
 
 -- the states after operation o
-unfoldable pub performed : List ℤ → Header → List ℤ → ℕ → Wanted → List ℤ
+unfoldable pub performed : List ℤ → Header → List ℤ → ℕ → Option ℕ → List ℤ
 performed s h states o w = after s h states o (chosen s h states o w)
 
 -- outcome j is asked for: it is the wanted one, or none is wanted
-unfoldable pub asks : Wanted → ℕ → Bool
-asks Any j = true
-asks (One k) j = eqb k j
-
--- the choice with outcome j, which is applicable, where it is asked for
-unfoldable pub counted : Wanted → ℕ → Choice → Choice
-counted w j c = cond (asks w j) (another j c) c
+unfoldable pub asks : Option ℕ → ℕ → Bool
+asks None j = true
+asks (Some k) j = eqb k j
 
 -- the outcome asked about: the wanted one, or with −1 the outcome numbered 0
-unfoldable pub about : Wanted → ℕ
-about Any = 0
-about (One j) = j
-
--- the choice with n for its place, where nothing is chosen
-unfoldable pub placed : ℕ → Choice → Choice
-placed n (Nothing k) = Nothing n
-placed n (Outcome j) = Outcome j
-placed n Several = Several
-
--- what blocks the outcome asked about: k so far, and n where outcome j, which n blocks, is the one
-unfoldable pub noted : ℕ → ℕ → ℕ → ℕ → ℕ
-noted subject j n k = cond (eqb subject j) n k
+unfoldable pub about : Option ℕ → ℕ
+about None = 0
+about (Some j) = j
 
 -- outcome j is asked for and applicable
-unfoldable pub candidate : (ℕ → Bool) → Wanted → ℕ → Bool
+unfoldable pub candidate : (ℕ → Bool) → Option ℕ → ℕ → Bool
 candidate applies w j = asks w j && applies j
 
 -- there is a state for each entity, and each is among its entity's states

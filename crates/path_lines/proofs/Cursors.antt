@@ -1,5 +1,6 @@
 -- What remains to be written, path by path and flow by flow, and what the calls of the listing make of a cursor.
 -- Assumes nothing.
+use Rattle.std.specs.Prelude.{Err}
 use Prim.Native.Nat.{ℕ, suc, ◌+◌, ◌-◌, ◌≤◌, ◌<◌}
 use mathlib.Core.Path.{◌≡◌, refl, sym, ◌∙◌, ap}
 use mathlib.Core.Bool.{Bool, true, false}
@@ -13,8 +14,8 @@ use lib.IntN.{ℤ}
 use lib.ListN.{length, take, drop, length-take, drop_of_length-le}
 use lib.Seq.{drop-cons, get_or-take}
 use Rattle.answer.specs.declared.Refusal.{Refusal}
-use Rattle.answer.specs.declared.Counted.{Counted}
-use Rattle.answer.specs.declared.Counted.TheVariants.{Is as Walked, Refused}
+use Rattle.answer.specs.declared.Tally.{Tally}
+use Rattle.answer.specs.Answers.{tallied, Counted}
 use Rattle.layout.specs.declared.Header.{Header}
 use Rattle.records.proofs.FlowLaws.{flow_ok}
 use Rattle.walks.specs.Paths.{paths, path, terminal}
@@ -100,10 +101,12 @@ told_all {s} {h} {c} u l = let z : c.flow ≡ h.flows = omega (arith, u.within) 
 
 -- ---- the first path of a flow
 
-walked : (s : List ℤ) (h : Header) (p : List ℕ) (t n : ℕ) → walk_of s h p ≡ Walked t n → (t ≡ terminal s h p) × (n ≡ length p)
-walked s h p t n e = (cc, cc)
+walked : (s : List ℤ) (h : Header) (p : List ℕ) (t n : ℕ) → walk_of s h p ≡ tallied t n → (t ≡ terminal s h p) × (n ≡ length p)
+walked s h p t n e =
+    let z : ◌≡◌ {A = Tally} (record { value = terminal s h p; count = length p }) (record { value = t; count = n }) = cc in
+    (ap (λ (x : Tally). x.value) (sym z), ap (λ (x : Tally). x.count) (sym z))
 
-walked_refused : (s : List ℤ) (h : Header) (p : List ℕ) (r : Refusal) → walk_of s h p ≡ Refused r → ⊥
+walked_refused : (s : List ℤ) (h : Header) (p : List ℕ) (r : Refusal) → walk_of s h p ≡ Err r → ⊥
 walked_refused s h p r e = let z : ◌≡◌ {A = ℕ} 0 1 = cc in omega arith
 
 module _ {s : List ℤ} {h : Header} {b : List ℕ} (u : Ready s h b) where
@@ -139,11 +142,11 @@ module _ {s : List ℤ} {h : Header} {b : List ℕ} (u : Ready s h b) where
       }
 
   module _ {f : ℕ} (l : f < h.flows) {r : Counted} (e : r ≡ first_walk s h f) where
-    pub first_refused_lem : {q : Refusal} → r ≡ Refused q → ⊥
+    pub first_refused_lem : {q : Refusal} → r ≡ Err q → ⊥
     unfolding first_walk
     first_refused_lem {q} p = walked_refused s h (path s h f 0) q (sym e ∙ p)
 
-    pub start_first : {t n : ℕ} {x : Bool} {b' : List ℕ} → x ≡ some_cut s h f → r ≡ Walked t n → b' ≡ first_laid s h f b → length b' ≡ length b
+    pub start_first : {t n : ℕ} {x : Bool} {b' : List ℕ} → x ≡ some_cut s h f → r ≡ tallied t n → b' ≡ first_laid s h f b → length b' ≡ length b
         → Starts s h f b (record { flow = f; number = 0; terminal = t; length = n; cut = x }) b'
     unfolding first_walk first_laid count
     start_first {t} {n} {x} {b'} g p q z =
@@ -208,7 +211,7 @@ module _ {s : List ℤ} {h : Header} {c : Cursor} {b : List ℕ} (u : Stands s h
 
   module _ {r : Counted} (e : r ≡ next_walk s h c.flow b) where
     -- refused: no path follows
-    last_count : {q : Refusal} → r ≡ Refused q → count s h c.flow ≤ suc c.number
+    last_count : {q : Refusal} → r ≡ Err q → count s h c.flow ≤ suc c.number
     unfolding next_walk answer_of
     last_count {q} p = go (dec_lt (suc c.number) (count s h c.flow))
       where
@@ -219,7 +222,7 @@ module _ {s : List ℤ} {h : Header} {c : Cursor} {b : List ℕ} (u : Stands s h
         go (no k) = omega arith
 
     -- a path: one follows
-    next_count : {t n : ℕ} → r ≡ Walked t n → suc c.number < count s h c.flow
+    next_count : {t n : ℕ} → r ≡ tallied t n → suc c.number < count s h c.flow
     unfolding next_walk answer_of
     next_count p = go (dec_lt (suc c.number) (count s h c.flow))
       where
@@ -230,19 +233,19 @@ module _ {s : List ℤ} {h : Header} {c : Cursor} {b : List ℕ} (u : Stands s h
             let v : ◌≡◌ {A = ℕ} 0 1 = cc (sym (ap (answer_of s h) y) ∙ sym e ∙ p) in
             absurd (omega arith)
 
-    pub follow_last : {q : Refusal} → r ≡ Refused q → {d : List ℕ} {c' : Cursor} {b' : List ℕ} → Starts s h (c.flow + 1) d c' b'
+    pub follow_last : {q : Refusal} → r ≡ Err q → {d : List ℕ} {c' : Cursor} {b' : List ℕ} → Starts s h (c.flow + 1) d c' b'
         → Follows s h c c' b'
     follow_last p t = follow_flow (inl (last_count p)) (rw (add-one c.flow) at t)
 
     -- what `enter` asks for at the next flow: all paths were written, or one more follows the last of them
-    pub next_whole : {q : Refusal} → r ≡ Refused q → (c.flow + 1 ≤ h.flows) × (c.cut ≡ some_cut s h (c.flow + 1))
+    pub next_whole : {q : Refusal} → r ≡ Err q → (c.flow + 1 ≤ h.flows) × (c.cut ≡ some_cut s h (c.flow + 1))
     next_whole p =
         (omega arith, u.told ∙ flow_whole s h c.flow (omega (arith, last_count p, held.early)) ∙ ap (some_cut s h) (sym (add-one c.flow)))
 
-    pub next_cut : {t n : ℕ} → r ≡ Walked t n → most ≤ c.number + 1 → (c.flow + 1 ≤ h.flows) × (true ≡ some_cut s h (c.flow + 1))
+    pub next_cut : {t n : ℕ} → r ≡ tallied t n → most ≤ c.number + 1 → (c.flow + 1 ≤ h.flows) × (true ≡ some_cut s h (c.flow + 1))
     next_cut p m = (omega arith, flow_cut s h c.flow (omega (arith, next_count p)) ∙ ap (some_cut s h) (sym (add-one c.flow)))
 
-    pub follow_next : c.number + 1 < most → {t n : ℕ} {b' : List ℕ} → r ≡ Walked t n → b' ≡ next_laid s h c.flow b → length b' ≡ length b
+    pub follow_next : c.number + 1 < most → {t n : ℕ} {b' : List ℕ} → r ≡ tallied t n → b' ≡ next_laid s h c.flow b → length b' ≡ length b
         → Follows s h c (record { flow = c.flow; number = c.number + 1; terminal = t; length = n; cut = c.cut }) b'
     unfolding next_walk next_laid answer_of buffer_of
     follow_next m {t} {n} {b'} p q z =

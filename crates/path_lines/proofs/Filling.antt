@@ -10,7 +10,7 @@ use lib.IntN.{ℤ}
 use lib.ListN.{length, take, drop, length-append, replicate}
 use lib.Seq.{sets, sets-eq, length-sets, take_at, drop_at, drop-drop, length-take-le, take-append_seam}
 use Rattle.layout.specs.declared.Header.{Header}
-use Rattle.walks.specs.Paths.{path, terminal}
+use Rattle.walks.specs.Paths.{path}
 use Rattle.walks.specs.Follows.{laid}
 use Rattle.decimal.specs.Decimal.{M}
 use Rattle.path_lines.specs.Output.{numbers_line, path_line}

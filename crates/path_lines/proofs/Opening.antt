@@ -1,5 +1,6 @@
 -- How a text is opened: every text of at most 16,000 bytes has room in 8,000 words, and a refusal's line is short.
 -- Assumes nothing.
+use Rattle.std.specs.Prelude.{Ok, Err}
 use Prim.Native.Nat.{ℕ, ◌+◌, ◌*◌, ◌≤◌, ◌<◌}
 use mathlib.Core.Path.{◌≡◌, refl, sym, ◌∙◌, ap}
 use mathlib.Core.Bool.{Bool, true, false, cond}
@@ -13,13 +14,10 @@ use Rattle.answer.specs.Number.{number, place}
 use Rattle.answer.proofs.Numbers.{number_range}
 use Rattle.answer.specs.declared.Refusal.{Refusal}
 use Rattle.answer.specs.declared.Refusal.TheVariants.{Line, NoRoom}
-use Rattle.answer.specs.declared.Count.{Count}
-use Rattle.answer.specs.declared.Count.TheVariants.{Is, Refused as NoCount}
+use Rattle.answer.specs.Answers.{Count}
 use Rattle.layout.specs.declared.Header.{Header}
 use Rattle.records.specs.Accepted.{Accepted}
-use Rattle.ladder.specs.declared.Climbed.{Climbed}
-use Rattle.ladder.specs.declared.Climbed.TheVariants.{At, Stopped}
-use Rattle.ladder.specs.Ladder.{opened, by}
+use Rattle.ladder.specs.Ladder.{Climbed, opened, by}
 use Rattle.ladder.proofs.ClimbLaws.{opened_at}
 use Rattle.ladder.proofs.Small.{opened_low}
 use Rattle.decimal.specs.Decimal.{digits}
@@ -30,9 +28,7 @@ use Rattle.text.proofs.Cut.{length_cut}
 use Rattle.text.proofs.Rows.{words_of_good, text_of_words}
 use Rattle.text.proofs.Fields.{fields, length_field, text_fields}
 use Rattle.text.proofs.Calls.{accepted, before_length, filled_take}
-use Rattle.path_lines.specs.declared.Entrance.{Entrance}
-use Rattle.path_lines.specs.declared.Entrance.TheVariants.{Good, Bad}
-use Rattle.path_lines.specs.Output.{numbers_line, refused_line, longest, text_count, sheet_entrance, words_entrance, entrance, words_left}
+use Rattle.path_lines.specs.Output.{Entrance, numbers_line, refused_line, longest, text_count, sheet_entrance, words_entrance, entrance, words_left}
 use Rattle.path_lines.specs.Steps.{number_field, refused_field}
 use Rattle.path_lines.proofs.Writing.{line_first, line_last, refused_start}
 use Rattle.path_lines.proofs.Bounds.{number_size}
@@ -63,7 +59,7 @@ count_short : (text : List ℕ) → length text ≤ longest → text_count text 
 unfolding text_count
 count_short text l = rw (le-leb (length text) longest l, text_count)
 
-count_long : (text : List ℕ) → longest < length text → text_count text ≡ NoCount NoRoom
+count_long : (text : List ℕ) → longest < length text → text_count text ≡ Err NoRoom
 unfolding text_count
 count_long text l = rw (lt-leb (length text) longest l, text_count)
 
@@ -76,8 +72,8 @@ read_count text room l k = go (all good_line (lines_of text)) refl ∙ sym (coun
     n = length (words_of text)
 
     go : (t : Bool) → all good_line (lines_of text) ≡ t
-        → fitted room (cond t (Is n) (NoCount (Line (before good_line (lines_of text))))) ≡ cond t (Is n)
-        (NoCount (Line (before good_line (lines_of text))))
+        → fitted room (cond t (Ok n) (Err (Line (before good_line (lines_of text))))) ≡ cond t (Ok n)
+        (Err (Line (before good_line (lines_of text))))
     go true g = rw (le-leb n room (omega (arith, text_words text g)))
     go false g = refl
 
@@ -86,7 +82,7 @@ pub record Counted (text : List ℕ) (n : ℕ) : Type 0 where
   pub count : n ≡ length (words_of text)
   pub few : n ≤ 8000
 
-counted : (text : List ℕ) (n : ℕ) → text_count text ≡ Is n → Counted text n
+counted : (text : List ℕ) (n : ℕ) → text_count text ≡ Ok n → Counted text n
 unfolding read_answer
 counted text n e = go (dec_lt longest (length text))
   where
@@ -96,13 +92,13 @@ counted text n e = go (dec_lt longest (length text))
         let a = accepted good_line (lines_of text) (length (words_of text)) 8000 n (read_count text 8000 (omega arith) (omega arith) ∙ e) in
         record { count = a.count; few = a.fits }
 
-left_words : (text : List ℕ) (lent : List ℤ) (n : ℕ) → text_count text ≡ Is n → take n (words_left text lent) ≡ words_of text
+left_words : (text : List ℕ) (lent : List ℤ) (n : ℕ) → text_count text ≡ Ok n → take n (words_left text lent) ≡ words_of text
 unfolding words_left
 left_words text lent n e = let z = (counted text n e).count in rw (e, z) (filled_take (words_of text) lent)
 
 -- ---- the ways out of `open_text`
 
-pub open_long : (text : List ℕ) (lent : List ℤ) → longest < length text → (Bad NoRoom ≡ entrance text) × (lent ≡ words_left text lent)
+pub open_long : (text : List ℕ) (lent : List ℤ) → longest < length text → (◌≡◌ {A = Entrance} (Err NoRoom) (entrance text)) × (lent ≡ words_left text lent)
 unfolding entrance words_entrance words_left filled
 open_long text lent l = rw (count_long text l, words_entrance, filled) (refl, refl)
 
@@ -115,12 +111,12 @@ module _ (text : List ℕ) (lent : List ℤ) (l : length text ≤ longest) (k : 
   unfolding read_buffer words_left
   leaves = b ∙ ap (λ (t : Count). filled t (words_of text) lent) (read_count text (length lent) l k)
 
-  pub open_refused : {r : Refusal} → x ≡ NoCount r → (Bad r ≡ entrance text) × (y ≡ words_left text lent)
+  pub open_refused : {r : Refusal} → x ≡ Err r → (◌≡◌ {A = Entrance} (Err r) (entrance text)) × (y ≡ words_left text lent)
   unfolding entrance words_entrance
   open_refused {r} p = (rw (sym counts ∙ p, words_entrance), leaves)
 
-  module _ {n : ℕ} (p : x ≡ Is n) where
-    is_count : text_count text ≡ Is n
+  module _ {n : ℕ} (p : x ≡ Ok n) where
+    is_count : text_count text ≡ Ok n
     is_count = sym counts ∙ p
 
     pub open_room : length y ≡ length lent → n ≤ length y
@@ -140,42 +136,43 @@ pub record Entered (text : List ℕ) (left : List ℤ) (h : Header) (n : ℕ) : 
   pub sheet : Accepted (take n left) h
   pub room : n ≤ 8000
 
-entered_sheet : (text : List ℕ) (lent : List ℤ) (h : Header) (n m : ℕ) (o : Climbed) → text_count text ≡ Is m → opened (words_of text) ≡ o
-    → sheet_entrance m o ≡ Good h n → Entered text (words_left text lent) h n
+entered_sheet : (text : List ℕ) (lent : List ℤ) (h : Header) (n m : ℕ) (o : Climbed) → text_count text ≡ Ok m → opened (words_of text) ≡ o
+    → sheet_entrance m o ≡ Ok (h, n) → Entered text (words_left text lent) h n
 unfolding by
-entered_sheet text lent h n m (At g) c p e =
-    let same : m ≡ n = cc in
-    let head : g ≡ h = cc in
-    let is : text_count text ≡ Is n = c ∙ ap Is same in
+entered_sheet text lent h n m (Ok g) c p e =
+    let z : ◌≡◌ {A = Header × ℕ} (g, m) (h, n) = cc in
+    let same : m ≡ n = ap (λ (x : Header × ℕ). x.1) z in
+    let head : g ≡ h = ap (λ (x : Header × ℕ). x.0) z in
+    let is : text_count text ≡ Ok n = c ∙ ap Ok same in
     let z = left_words text lent n is in
     record {
       words = z;
-      sheet = rw z (opened_at (words_of text) {h = h} refl (p ∙ ap At head)).sheet;
+      sheet = rw z (opened_at (words_of text) {h = h} refl (p ∙ ap Ok head)).sheet;
       room = (counted text n is).few;
     }
-entered_sheet text lent h n m (Stopped r) c p e = let z : ◌≡◌ {A = ℕ} 0 1 = cc in absurd (omega arith)
+entered_sheet text lent h n m (Err r) c p e = let z : ◌≡◌ {A = ℕ} 0 1 = cc in absurd (omega arith)
 
 pub entered : (text : List ℕ) (lent : List ℤ) {h : Header} {n : ℕ} {x : Entrance} {left : List ℤ} → x ≡ entrance text → left ≡ words_left text lent
-    → x ≡ Good h n → Entered text left h n
+    → x ≡ Ok (h, n) → Entered text left h n
 unfolding entrance words_entrance
 entered text lent {h} {n} {x} {left} e f p = rw f (go (text_count text) refl (sym e ∙ p))
   where
-    go : (c : Count) → text_count text ≡ c → words_entrance c (words_of text) ≡ Good h n → Entered text (words_left text lent) h n
-    go (Is m) q z = entered_sheet text lent h n m (opened (words_of text)) q refl z
-    go (NoCount r) q z = let y : ◌≡◌ {A = ℕ} 0 1 = cc in absurd (omega arith)
+    go : (c : Count) → text_count text ≡ c → words_entrance c (words_of text) ≡ Ok (h, n) → Entered text (words_left text lent) h n
+    go (Ok m) q z = entered_sheet text lent h n m (opened (words_of text)) q refl z
+    go (Err r) q z = let y : ◌≡◌ {A = ℕ} 0 1 = cc in absurd (omega arith)
 
 -- ---- a refusal's place is small
 
-sheet_low : (s : List ℤ) (n : ℕ) (r : Refusal) (o : Climbed) → opened s ≡ o → sheet_entrance n o ≡ Bad r → place r < 100000
+sheet_low : (s : List ℤ) (n : ℕ) (r : Refusal) (o : Climbed) → opened s ≡ o → sheet_entrance n o ≡ Err r → place r < 100000
 unfolding by
-sheet_low s n r (At h) p e = let z : ◌≡◌ {A = ℕ} 0 1 = cc in absurd (omega arith)
-sheet_low s n r (Stopped q) p e = let z : q ≡ r = cc in opened_low s (p ∙ ap Stopped z)
+sheet_low s n r (Ok h) p e = let z : ◌≡◌ {A = ℕ} 0 1 = cc in absurd (omega arith)
+sheet_low s n r (Err q) p e = let z : q ≡ r = cc in opened_low s (p ∙ ap Err z)
 
-text_low : (text : List ℕ) (r : Refusal) → text_count text ≡ NoCount r → place r < 100000
+text_low : (text : List ℕ) (r : Refusal) → text_count text ≡ Err r → place r < 100000
 unfolding judged lines_of
 text_low text r e = go (dec_lt longest (length text))
   where
-    line : (t : Bool) → cond t (Is (length (words_of text))) (NoCount (Line (before good_line (lines_of text)))) ≡ NoCount r → length text ≤ longest
+    line : (t : Bool) → cond t (Ok (length (words_of text))) (Err (Line (before good_line (lines_of text)))) ≡ Err r → length text ≤ longest
         → place r < 100000
     line true p l = let z : ◌≡◌ {A = ℕ} 0 1 = cc in absurd (omega arith)
     line false p l =
@@ -186,13 +183,13 @@ text_low text r e = go (dec_lt longest (length text))
     go (yes l) = let z : NoRoom ≡ r = cc (sym (count_long text l) ∙ e) in omega (arith, ap place z)
     go (no l) = line (all good_line (lines_of text)) (sym (count_short text (omega arith)) ∙ e) (omega arith)
 
-pub entrance_low : (text : List ℕ) {r : Refusal} {x : Entrance} → x ≡ entrance text → x ≡ Bad r → place r < 100000
+pub entrance_low : (text : List ℕ) {r : Refusal} {x : Entrance} → x ≡ entrance text → x ≡ Err r → place r < 100000
 unfolding entrance words_entrance
 entrance_low text {r} e p = go (text_count text) refl (sym e ∙ p)
   where
-    go : (c : Count) → text_count text ≡ c → words_entrance c (words_of text) ≡ Bad r → place r < 100000
-    go (Is n) q z = sheet_low (words_of text) n r (opened (words_of text)) refl z
-    go (NoCount w) q z = let y : w ≡ r = cc in text_low text r (q ∙ ap NoCount y)
+    go : (c : Count) → text_count text ≡ c → words_entrance c (words_of text) ≡ Err r → place r < 100000
+    go (Ok n) q z = sheet_low (words_of text) n r (opened (words_of text)) refl z
+    go (Err w) q z = let y : w ≡ r = cc in text_low text r (q ∙ ap Err y)
 
 -- the line of such a refusal is short
 pub refused_short : (r : Refusal) → place r < 100000 → length (refused_line r) ≤ 17

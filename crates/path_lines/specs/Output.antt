@@ -1,19 +1,15 @@
 -- 01, "Text of a sheet": what the program writes for a text. A line is text's: decimals parted by one tab, ended by LF.
 -- Assumes nothing.
-use Rattle.std.specs.Prelude.{ℕ, zero, suc, Bool, true, false, cond, List, [], ◌∷◌, ◌++◌, map, leb, ltb, ℤ, pos, length, take}
+use Rattle.std.specs.Prelude.{ℕ, zero, suc, Bool, true, false, cond, List, [], ◌∷◌, ◌++◌, map, leb, ltb, ℤ, pos, length, take, Result, Ok, Err}
 use Rattle.answer.specs.Number.{number, place}
 use Rattle.answer.specs.declared.Refusal.{Refusal}
 use Rattle.answer.specs.declared.Refusal.TheVariants.{NoRoom}
-use Rattle.answer.specs.declared.Count.{Count}
-use Rattle.answer.specs.declared.Count.TheVariants.{Is, Refused as NoCount}
+use Rattle.answer.specs.Answers.{Count}
 use Rattle.layout.specs.declared.Header.{Header}
 use Rattle.walks.specs.Paths.{paths, terminal}
-use Rattle.ladder.specs.declared.Climbed.{Climbed}
-use Rattle.ladder.specs.Ladder.{opened, by}
+use Rattle.ladder.specs.Ladder.{Climbed, opened, by}
 use Rattle.text.specs.Lines.{join, line, good_line, lines_of, words_of}
 use Rattle.text.specs.Calls.{judged, filled}
-use Rattle.path_lines.specs.declared.Entrance.{Entrance}
-use Rattle.path_lines.specs.declared.Entrance.TheVariants.{Good, Bad}
 use Rattle.path_lines.specs.declared.Notice.{Notice}
 use Rattle.path_lines.specs.declared.Notice.TheVariants.{Nothing, Cut, Refused as SaysRefused}
 
@@ -65,15 +61,19 @@ longest = 16000
 -- how many words the text has: "longer text is number 15, place 0, whatever it holds"; else 14 at the first bad line
 unfoldable pub text_count : List ℕ → Count
 text_count text =
-    elim (leb (length text) longest) [ true ↦ judged good_line (lines_of text) (length (words_of text)) | false ↦ NoCount NoRoom ]
+    elim (leb (length text) longest) [ true ↦ judged good_line (lines_of text) (length (words_of text)) | false ↦ Err NoRoom ]
+
+-- what a text holds: a sheet, by its header and how many words it has, or a refusal
+abbrev pub Entrance : Type 0
+Entrance = Result (Header × ℕ) Refusal
 
 -- the text's words are checked as a sheet: its header and its number of words, or the first refusal
 abbrev pub sheet_entrance : ℕ → Climbed → Entrance
-sheet_entrance n o = by o Bad (λ h. Good h n)
+sheet_entrance n o = by o Err (λ h. Ok (h, n))
 
 unfoldable pub words_entrance : Count → List ℤ → Entrance
-words_entrance (Is n) words = sheet_entrance n (opened words)
-words_entrance (NoCount r) words = Bad r
+words_entrance (Ok n) words = sheet_entrance n (opened words)
+words_entrance (Err r) words = Err r
 
 unfoldable pub entrance : List ℕ → Entrance
 entrance text = words_entrance (text_count text) (words_of text)
@@ -84,8 +84,8 @@ words_left text lent = filled (text_count text) (words_of text) lent
 
 -- all that the program writes
 unfoldable pub written : List ℤ → Entrance → List ℕ
-written words (Good h n) = sheet_lines words h
-written words (Bad r) = refused_line r
+written words (Ok e) = sheet_lines words e.0
+written words (Err r) = refused_line r
 
 unfoldable pub output : List ℕ → List ℕ
 output text = written (words_of text) (entrance text)
@@ -98,8 +98,8 @@ unfoldable pub sheet_notice : List ℤ → Header → Notice
 sheet_notice s h = notice_of (some_cut s h h.flows)
 
 unfoldable pub noticed : List ℤ → Entrance → Notice
-noticed words (Good h n) = sheet_notice words h
-noticed words (Bad r) = SaysRefused
+noticed words (Ok e) = sheet_notice words e.0
+noticed words (Err r) = SaysRefused
 
 unfoldable pub said : List ℕ → Notice
 said text = noticed (words_of text) (entrance text)

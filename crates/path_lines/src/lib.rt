@@ -10,9 +10,9 @@ ghost use Rattle.path_lines.specs.Output.{numbers_line, sheet_lines, refused_lin
 ghost use Rattle.path_lines.specs.Steps.{ending_of, number_field, refused_field};
 ghost use Rattle.path_lines.specs.Chunks.{remaining, Ready, Stands, Starts, Follows, Chunk};
 
-use answer::{Count, Counted, Refusal, signed};
-use ladder::Climbed;
+use answer::{Refusal, Tally, signed};
 use layout::{Flow, Header};
+use records::Contract;
 
 // 01: "a sheet's text of at most 16,000 bytes".
 const LONGEST_TEXT: usize = 16_000;
@@ -22,13 +22,6 @@ const MOST: usize = 10_000;
 
 // A flow below 32, a terminal of at most 2 and 256 routes below 1,024, each with its ending.
 const LONGEST_LINE: usize = 1_285;
-
-// What a text holds: a sheet, by its header and how many words it has, or a refusal.
-#[derive(Clone, Copy)]
-pub enum Entrance {
-    Good(Header, usize),
-    Bad(Refusal),
-}
 
 // The path that is written next, by its flow and number; it stands in the path buffer. Past the last flow, nothing is left to write.
 #[derive(Clone, Copy)]
@@ -72,22 +65,14 @@ fn put_number(out: &mut [u8], at: usize, n: usize, last: bool) -> usize
     decimal::put_field(out, at, signed(n), ending(last))
 }
 
-fn wide(r: u16) -> usize
-    ensures { result ≡ r }
-{
-    r as usize
-}
-
 // The first n routes of a path buffer, which end a line. The answer is the place after them.
 fn put_routes(path: &[u16], n: usize, out: &mut [u8], from: usize) -> usize
     requires { (n ≤ length path.now) × (from + length (numbers_line (take n path.now)) ≤ length out.old) }
     ensures { (result ≡ from + length (numbers_line (take n path.now))) × (out.new ≡ sets out.old from (numbers_line (take n path.now))) }
 {
     let mut at = from;
-    let mut i = 0;
-    while i < n {
-        at = put_number(out, at, wide(path[i]), i + 1 == n);
-        i += 1;
+    for i in 0..n {
+        at = put_number(out, at, path[i] as usize, i + 1 == n);
     }
     at
 }
@@ -115,14 +100,7 @@ fn put_refused(out: &mut [u8])
     requires { 8 ≤ length out.old }
     ensures { out.new ≡ sets out.old 0 refused_field }
 {
-    out[0] = b'r';
-    out[1] = b'e';
-    out[2] = b'f';
-    out[3] = b'u';
-    out[4] = b's';
-    out[5] = b'e';
-    out[6] = b'd';
-    out[7] = b'\t';
+    out[..8].copy_from_slice(b"refused\t");
 }
 
 // 01: "On refusal one line by tabs: "refused", number, place". The answer is its length.
@@ -130,44 +108,41 @@ pub fn refusal(r: Refusal, out: &mut [u8]) -> usize
     requires { (place r ≤ 1000000000) × (length (refused_line r) ≤ length out.old) }
     ensures { (result ≡ length (refused_line r)) × (out.new ≡ sets out.old 0 (refused_line r)) }
 {
-    let number = answer::number(r);
-    let place = answer::place(r);
+    let number = r.number();
+    let place = r.place();
     put_refused(out);
     let at = put_number(out, 8, number, false);
     put_number(out, at, place, true)
 }
 
 // The n words of a text, checked as a sheet.
-fn judge_words(words: &[i64], n: usize) -> Entrance
+#[tactic(auto, unfolding(ladder::specs::Ladder::by))]
+fn judge_words(words: &[i64], n: usize) -> Result<(Header, usize), Refusal>
     ensures { result ≡ sheet_entrance n (opened words.now) }
 {
-    match ladder::open_sheet(words) {
-        Climbed::Stopped(r) => Entrance::Bad(r),
-        Climbed::At(h) => Entrance::Good(h, n),
-    }
+    let k = ladder::open_sheet(words)?;
+    Ok((k.sheet.header, n))
 }
 
 // Reads a text into `words` and checks it, once for all its paths.
-pub fn open_text(text: &[u8], words: &mut [i64]) -> Entrance
+pub fn open_text(text: &[u8], words: &mut [i64]) -> Result<(Header, usize), Refusal>
     requires { 8000 ≤ length words.old }
     ensures { (result ≡ entrance text.now) × (words.new ≡ words_left text.now words.old) }
 {
     if LONGEST_TEXT < text.len() {
-        return Entrance::Bad(Refusal::NoRoom);
+        return Err(Refusal::NoRoom);
     }
-    match text::read(text, words) {
-        Count::Is(n) => judge_words(&words[..n], n),
-        Count::Refused(r) => Entrance::Bad(r),
-    }
+    let n = text::read(text, words)?;
+    judge_words(&words[..n], n)
 }
 
 // At the first path of a flow, or past the last flow.
-fn enter(s: &[i64], h: Header, flow: usize, path: &mut [u16], cut: bool) -> Cursor
-    requires ready { Ready s.now h path.old }
-    requires flow_le_flows { (flow ≤ h.flows) × (cut ≡ some_cut s.now h flow) }
-    ensures { Starts s.now h flow path.old result path.new }
+fn enter(s: &Contract, flow: usize, path: &mut [u16], cut: bool) -> Cursor
+    requires ready { Ready s.now.sheet.words.now s.now.sheet.header path.old }
+    requires flow_le_flows { (flow ≤ s.now.sheet.header.flows) × (cut ≡ some_cut s.now.sheet.words.now s.now.sheet.header flow) }
+    ensures { Starts s.now.sheet.words.now s.now.sheet.header flow path.old result path.new }
 {
-    if h.flows <= flow {
+    if s.sheet.header.flows <= flow {
         return Cursor {
             flow,
             number: 0,
@@ -176,18 +151,20 @@ fn enter(s: &[i64], h: Header, flow: usize, path: &mut [u16], cut: bool) -> Curs
             cut,
         };
     }
-    match listing::first(s, h, Flow(flow), path) {
-        Counted::Is {
-            value: terminal,
-            count: length,
-        } => Cursor {
+    match listing::first(s, Flow(flow), path) {
+        Ok(
+            Tally {
+                value: terminal,
+                count: length,
+            },
+        ) => Cursor {
             flow,
             number: 0,
             terminal,
             length,
             cut,
         },
-        Counted::Refused(_) => Cursor {
+        Err(_) => Cursor {
             flow,
             number: 0,
             terminal: 0,
@@ -198,29 +175,31 @@ fn enter(s: &[i64], h: Header, flow: usize, path: &mut [u16], cut: bool) -> Curs
 }
 
 // At the first path of the sheet: all its lines remain.
-pub fn start(s: &[i64], h: Header, path: &mut [u16]) -> Cursor
-    requires { Ready s.now h path.old }
-    ensures { Starts s.now h 0 path.old result path.new × (remaining s.now h result ≡ sheet_lines s.now h) }
+pub fn start(s: &Contract, path: &mut [u16]) -> Cursor
+    requires { Ready s.now.sheet.words.now s.now.sheet.header path.old }
+    ensures { Starts s.now.sheet.words.now s.now.sheet.header 0 path.old result path.new × (remaining s.now.sheet.words.now s.now.sheet.header result ≡ sheet_lines s.now.sheet.words.now s.now.sheet.header) }
 {
-    enter(s, h, 0, path, false)
+    enter(s, 0, path, false)
 }
 
 // At the path that follows in the flow, or at the next flow's first one. A path that follows the last that is written is one too many.
-fn advance(s: &[i64], h: Header, cursor: Cursor, path: &mut [u16]) -> Cursor
-    requires stands { Stands s.now h cursor path.old }
-    requires flow_lt_flows { cursor.flow < h.flows }
-    ensures { Follows s.now h cursor result path.new }
+fn advance(s: &Contract, cursor: Cursor, path: &mut [u16]) -> Cursor
+    requires stands { Stands s.now.sheet.words.now s.now.sheet.header cursor path.old }
+    requires flow_lt_flows { cursor.flow < s.now.sheet.header.flows }
+    ensures { Follows s.now.sheet.words.now s.now.sheet.header cursor result path.new }
 {
     let flow = cursor.flow;
     let number = cursor.number + 1;
     let cut = cursor.cut;
-    match listing::next(s, h, Flow(flow), path) {
-        Counted::Is {
-            value: terminal,
-            count: length,
-        } => {
+    match listing::next(s, Flow(flow), path) {
+        Ok(
+            Tally {
+                value: terminal,
+                count: length,
+            },
+        ) => {
             if MOST <= number {
-                return enter(s, h, flow + 1, path, true);
+                return enter(s, flow + 1, path, true);
             }
             Cursor {
                 flow,
@@ -230,18 +209,18 @@ fn advance(s: &[i64], h: Header, cursor: Cursor, path: &mut [u16]) -> Cursor
                 cut,
             }
         }
-        Counted::Refused(_) => enter(s, h, flow + 1, path, cut),
+        Err(_) => enter(s, flow + 1, path, cut),
     }
 }
 
 // Writes whole lines while the longest one would fit.
-pub fn fill(s: &[i64], h: Header, cursor: Cursor, path: &mut [u16], out: &mut [u8]) -> Filled
-    requires { Stands s.now h cursor path.old }
-    ensures { Stands s.now h result.cursor path.new × Chunk s.now h cursor out.old result.cursor result.written out.new }
+pub fn fill(s: &Contract, cursor: Cursor, path: &mut [u16], out: &mut [u8]) -> Filled
+    requires { Stands s.now.sheet.words.now s.now.sheet.header cursor path.old }
+    ensures { Stands s.now.sheet.words.now s.now.sheet.header result.cursor path.new × Chunk s.now.sheet.words.now s.now.sheet.header cursor out.old result.cursor result.written out.new }
 {
     let mut c = cursor;
     let mut n = 0;
-    while c.flow < h.flows {
+    while c.flow < s.sheet.header.flows {
         if out.len() - n < LONGEST_LINE {
             return Filled {
                 written: n,
@@ -249,7 +228,7 @@ pub fn fill(s: &[i64], h: Header, cursor: Cursor, path: &mut [u16], out: &mut [u
             };
         }
         n = put_line(c.flow, c.terminal, path, c.length, out, n);
-        c = advance(s, h, c, path);
+        c = advance(s, c, path);
     }
     Filled {
         written: n,

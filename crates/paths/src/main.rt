@@ -2,50 +2,62 @@
 // Where a text is refused, a list is cut or standard output fails, it says so in a line on standard error: path_lines' `said`.
 #![tactic(auto)]
 
-ghost use Rattle.std.specs.Prelude.{◌<◌, ◌≡◌, ◌⊎◌};
+ghost use Rattle.std.specs.Prelude.{◌<◌, ◌≡◌, IfOk, OnOk};
+ghost use Rattle.std.specs.Io.KnownBytes.{Appends};
 ghost use Rattle.answer.specs.Number.{place};
 ghost use Rattle.records.specs.Accepted.{Accepted};
-ghost use Rattle.path_lines.specs.Output.{sheet_notice};
-ghost use Rattle.path_lines.specs.declared.Notice.TheVariants.{Refused, Unwritten};
+ghost use Rattle.path_lines.specs.Output.{sheet_lines, sheet_notice, refused_line, output, said};
+ghost use Rattle.path_lines.specs.declared.Notice.TheVariants.{Refused};
 
 use answer::Refusal;
-use layout::Header;
-use path_lines::{Entrance, Notice};
+use layout::{Header, Sheet};
+use path_lines::Notice;
+use records::Contract;
+use standard::{Output, say};
+use std::io;
+use std::io::Write;
 
-// The lines of all paths, chunk by chunk, up to the first that is not taken.
-fn write_paths(s: &[i64], h: Header) -> Notice
-    requires { Accepted s.now h }
-    ensures { (result ≡ sheet_notice s.now h) ⊎ (result ≡ Unwritten) }
+// The lines of all paths, chunk by chunk.
+fn write_paths<W: Write>(s: &Contract, out: &mut W) -> io::Result<Notice>
+    ensures notice { IfOk result (λ n. n ≡ sheet_notice s.now.sheet.words.now s.now.sheet.header) }
+    ensures bytes { OnOk result (Appends (W.contents out.old) (W.contents out.new) (sheet_lines s.now.sheet.words.now s.now.sheet.header)) }
 {
     let mut path = [0u16; Header::STEPS];
-    let mut out = io::large_buffer();
-    let mut c = path_lines::start(s, h, &mut path);
-    while c.flow < h.flows {
-        let f = path_lines::fill(s, h, c, &mut path, &mut out);
-        let n = f.written;
-        if !io::write_all(1, &out[..n]) {
-            return Notice::Unwritten;
-        }
-        let next = f.cursor;
-        c = next;
+    let mut chunk = [0u8; 65_536];
+    let mut c = path_lines::start(s, &mut path);
+    while c.flow < s.sheet.header.flows {
+        let f = path_lines::fill(s, c, &mut path, &mut chunk);
+        out.write_all(&chunk[..f.written])?;
+        c = f.cursor;
     }
-    path_lines::notice_of(c.cut)
+    Ok(path_lines::notice_of(c.cut))
 }
 
-fn write_refused(r: Refusal) -> Notice
+fn write_refused<W: Write>(r: Refusal, out: &mut W) -> io::Result<Notice>
     requires { place r < 100000 }
-    ensures { (result ≡ Refused) ⊎ (result ≡ Unwritten) }
+    ensures notice { IfOk result (λ n. n ≡ Refused) }
+    ensures bytes { OnOk result (Appends (W.contents out.old) (W.contents out.new) (refused_line r)) }
 {
-    let mut out = io::buffer();
-    let n = path_lines::refusal(r, &mut out);
-    if !io::write_all(1, &out[..n]) {
-        return Notice::Unwritten;
-    }
-    Notice::Refused
+    let mut line = [0u8; 32];
+    let n = path_lines::refusal(r, &mut line);
+    out.write_all(&line[..n])?;
+    Ok(Notice::Refused)
 }
 
-fn say(line: &[u8]) {
-    io::write_all(2, line);
+// All that is written for a text, and what is said of it.
+fn write_output<W: Write>(text: &[u8], out: &mut W) -> io::Result<Notice>
+    ensures notice { IfOk result (λ n. n ≡ said text.now) }
+    ensures bytes { OnOk result (Appends (W.contents out.old) (W.contents out.new) (output text.now)) }
+{
+    let mut words = [0i64; 8000];
+    match path_lines::open_text(text, &mut words) {
+        Ok((header, n)) => {
+            let words = &words[..n];
+            let sheet = Sheet { words, header };
+            write_paths(&Contract { sheet }, out)
+        }
+        Err(r) => write_refused(r, out),
+    }
 }
 
 fn tell(n: Notice) {
@@ -59,11 +71,7 @@ fn tell(n: Notice) {
 
 // The buffer is longer than the longest text, so that a text that is too long is seen to be so.
 fn main() {
-    let mut text = io::large_buffer();
-    let n = io::read_full(0, &mut text);
-    let mut words = [0i64; 8000];
-    match path_lines::open_text(&text[..n], &mut words) {
-        Entrance::Good(h, k) => tell(write_paths(&words[..k], h)),
-        Entrance::Bad(r) => tell(write_refused(r)),
-    }
+    let mut text = [0u8; 65_536];
+    let n = standard::read(&mut text);
+    tell(write_output(&text[..n], &mut Output).unwrap_or(Notice::Unwritten));
 }

@@ -22,11 +22,9 @@ use Rattle.item.specs.declared.Item.{Item}
 use Rattle.item.specs.Units.{converted}
 use Rattle.item.specs.Items.{none, align}
 use Rattle.item.proofs.Units.{converted_low, shared_bool}
-use Rattle.node.specs.declared.Kids.{Kids}
 use Rattle.node.specs.declared.Given.{Given}
 use Rattle.node.specs.FactValues.{FactValue, no_value, value_in, elements_in}
 use Rattle.node.specs.Rows.{row_of, bit, is_true}
-use Rattle.node.specs.Judged.{kids}
 use Rattle.node.proofs.OneKind.{no_cons}
 use Rattle.node.proofs.OverLists.{Names, binder, single_named, binder_list, length_list, citer_list, binder_bool}
 use Rattle.node.proofs.FactTypeLaws.{plain_sort}
@@ -44,7 +42,7 @@ use Rattle.kinds.proofs.SecondsLaws.{seconds_from_lem, decided_seconds, value_wi
 use Rattle.kinds.proofs.TakenLaws.{part_taken}
 use Rattle.kinds.proofs.SweepLaws.{is_binder, quantified_value, unbound}
 use Rattle.tree.specs.Inner.{row_at, children_at, BaseOf}
-use Rattle.tree.proofs.TreeLaws.{held as held-node, none_named, one_named, two_named, first_before, second_before}
+use Rattle.tree.proofs.TreeLaws.{held as held-node, named as children_named, before}
 use Rattle.predicate.specs.Values.{child_sort, child_value, seen_of, value_of, truth}
 use Rattle.predicate.specs.Units.{seconds_of}
 use Rattle.predicate.specs.Inner.{Evaluable}
@@ -116,15 +114,6 @@ true_seconds {s} {h} {facts} {verdicts} {n} {e} v p =
 abbrev tail : List ℕ → List ℕ
 tail [] = []
 tail (c ∷ cs) = cs
-
--- a list of one child
-kids_one : (c : Kids) (a : ℕ) → kids c ≡ (a ∷ []) → c.count ≡ 1
-kids_one c a p = go c.count refl
-  where
-    go : (m : ℕ) → c.count ≡ m → m ≡ 1
-    go zero q = absurd (no_cons a [] (sym p ∙ rw q))
-    go (suc zero) q = refl
-    go (suc (suc m)) q = absurd (no_cons c.second [] (ap tail (rw q at p)))
 
 -- what such words say of fact f
 module _ {s : List ℤ} {h : Header} (words lists : List ℤ) (k : FactsIn s h (held s words lists)) (f : ℕ) (l : f < h.facts) where
@@ -270,64 +259,70 @@ module _ {s : List ℤ} {base : ℕ} {words lists verdicts : List ℤ} {n : ℕ}
         };
       }
 
-  module _ (c : Kids) (k : kids c ≡ children_at s (base + n)) where
-    pub by_none : c.count ≡ 0 → MeetsLeaf
+  pub by_none : [] ≡ children_at s (base + n) → MeetsLeaf
+  unfolding pick
+  by_none k =
+      let none = children_named (there v) k in
+      record {
+        based = record { first = v.first; accepted = v.over.accepted };
+        able = rw v.first (record {
+          none = none;
+          part = part_taken _ given good.takes;
+          fact = fact_value;
+          duration = duration_value;
+        });
+        reads = rw v.first (record {
+          plain = element_plain;
+          value = λ q. let z = single q in word_single words lists v.over.known f z.0 z.1;
+          count = count_value;
+        });
+        is = met (pos 0) (pos 0) [] none refl refl;
+      }
+
+  -- one child, of what is no quantifier
+  module _ {a : ℕ} (k : (a ∷ []) ≡ children_at s (base + n)) (u : is_quantifier (num (words_at s (base + n)).w0) ≡ false) where
+    alone : is_quantifier kind ≡ false
+    alone = rw v.first at u
+
+    pub only_at : EvaluableAt s base words lists verdicts a e
+    only_at = child_at a (before (there v) k).0 alone (first_child s head n (children_named (there v) k))
+
+    pub by_one : {x : ℤ} → x ≡ sec a e → Meets x (pos 0)
     unfolding pick
-    by_none p =
-        let none = none_named (there v) c k p in
-        record {
-          based = record { first = v.first; accepted = v.over.accepted };
-          able = rw v.first (record {
-            none = none;
-            part = part_taken _ given good.takes;
-            fact = fact_value;
-            duration = duration_value;
-          });
-          reads = rw v.first (record {
-            plain = element_plain;
-            value = λ q. let z = single q in word_single words lists v.over.known f z.0 z.1;
-            count = count_value;
-          });
-          is = met (pos 0) (pos 0) [] none refl refl;
-        }
+    by_one q = meets _ (pos 0) a [] (children_named (there v) k) alone q refl
 
-    module _ (u : is_quantifier (num (words_at s (base + n)).w0) ≡ false) where
-      plain : is_quantifier kind ≡ false
-      plain = rw v.first at u
+  -- two children, which no quantifier has
+  module _ {a b : ℕ} (k : (a ∷ b ∷ []) ≡ children_at s (base + n)) where
+    plain : is_quantifier kind ≡ false
+    plain = rw v.first at (go (is_quantifier (num (words_at s (base + n)).w0)) refl)
+      where
+        go : (t : Bool) → is_quantifier (num (words_at s (base + n)).w0) ≡ t → is_quantifier (num (words_at s (base + n)).w0) ≡ false
+        go true q = absurd (no_cons b [] (ap tail (k ∙ (binder _ (is_binder _ q) (words_at s (base + n))).2)))
+        go false q = q
 
-      pub by_one : {x : ℤ} → c.count ≡ 1 → x ≡ sec c.first e → Meets x (pos 0)
-      unfolding pick
-      by_one p q = meets _ (pos 0) c.first [] (one_named (there v) c k p) plain q refl
+    pub first_at : EvaluableAt s base words lists verdicts a e
+    first_at = child_at a (before (there v) k).0 plain (first_child s head n (children_named (there v) k))
 
-      pub by_two : {x y : ℤ} → (c.count ≡ 0 → ⊥) → (c.count ≡ 1 → ⊥) → x ≡ sec c.first e → y ≡ sec c.second e → Meets x y
-      unfolding pick
-      by_two d p q r = meets _ _ c.first (c.second ∷ []) (two_named (there v) c k d p) plain q r
+    pub second_at : EvaluableAt s base words lists verdicts b e
+    second_at = child_at b (before (there v) k).1.0 plain (second_child s head n (children_named (there v) k))
 
-      -- where the first child decides, the second does not matter
-      pub by_first : {x : ℤ} → (c.count ≡ 0 → ⊥) → (c.count ≡ 1 → ⊥) → x ≡ sec c.first e → (row_at s (base + n)).decides x ≡ true → x ≡ sec n e
-      by_first {x} d p q r =
-          sym (decided_seconds _ _ _ facts verdicts e x (sec c.second e) first_value r) ∙ (by_two d p q refl).is
+    pub by_two : {x y : ℤ} → x ≡ sec a e → y ≡ sec b e → Meets x y
+    unfolding pick
+    by_two q r = meets _ _ a (b ∷ []) (children_named (there v) k) plain q r
 
-      first_named : (m : ℕ) → c.count ≡ m → (m ≡ 0 → ⊥) → Child s head n c.first
-      first_named zero p d = absurd (d refl)
-      first_named (suc zero) p d = first_child s head n (one_named (there v) c k p)
-      first_named (suc (suc m)) p d = first_child s head n (two_named (there v) c k (λ z. absurd (omega arith)) (λ z. absurd (omega arith)))
+    -- where the first child decides, the second does not matter
+    pub by_first : {x : ℤ} → x ≡ sec a e → (row_at s (base + n)).decides x ≡ true → x ≡ sec n e
+    by_first {x} q r = sym (decided_seconds _ _ _ facts verdicts e x (sec b e) first_value r) ∙ (by_two q refl).is
 
-      pub first_at : (c.count ≡ 0 → ⊥) → EvaluableAt s base words lists verdicts c.first e
-      first_at d = child_at c.first (first_before (there v) c k d) plain (first_named c.count refl d)
-
-      pub second_at : (c.count ≡ 0 → ⊥) → (c.count ≡ 1 → ⊥) → EvaluableAt s base words lists verdicts c.second e
-      second_at d p =
-          child_at c.second (second_before (there v) c k d p) plain (second_child s head n (two_named (there v) c k d p))
-
+  module _ {a : ℕ} (k : (a ∷ []) ≡ children_at s (base + n)) where
     -- ---- a quantifier
 
     module _ (u : is_quantifier (num (words_at s (base + n)).w0) ≡ true) where
       quantifier : (kind ≡ 14) ⊎ (kind ≡ 15)
       quantifier = is_binder kind (rw v.first at u)
 
-      only : children_of s head n ≡ (c.first ∷ [])
-      only = one_named (there v) c k (kids_one c _ (k ∙ (binder _ (is_binder _ u) (words_at s (base + n))).2))
+      only : children_of s head n ≡ (a ∷ [])
+      only = children_named (there v) k
 
       over_list_lem : bound_by s head n ≡ (f ∷ [])
       over_list_lem = (binder kind quantifier (node_words s head n)).0
@@ -338,14 +333,14 @@ module _ {s : List ℤ} {base : ℕ} {words lists verdicts : List ℤ} {n : ℕ}
       bools : (given.x.sort ≡ 0) × (((node_row s head n).gives given).sort ≡ 0)
       bools = binder_bool kind given quantifier good.takes
 
-      body_before : c.first < n
+      body_before : a < n
       body_before = (rw only at good.before).0
 
       here : quantifies s head n ≡ true
       here = bound s head n f over_list_lem
 
       -- its body is evaluated at the elements of its list
-      pub sweep_at : SweepAt s base (base + n) words lists verdicts c.first
+      pub sweep_at : SweepAt s base (base + n) words lists verdicts a
       sweep_at =
           let o = v.over in
           let q = list in
@@ -361,29 +356,29 @@ module _ {s : List ℤ} {base : ℕ} {words lists verdicts : List ℤ} {n : ℕ}
                 exists = omega (arith, body_before, o.exists);
                 scoped = record {
                   inside = λ g b z.
-                      let same = loose_body s head n good.before c.first g f over_list_lem m z
+                      let same = loose_body s head n good.before a g f over_list_lem m z
                       (o.scoped.outer (quantified_here s head n good.before here) g b) in
                       rw same (element_in words lists o.known f q.0 q.1 j l);
-                  outer = λ z. absurd (true_false z (body_plain s head n c.first good.flat here m));
+                  outer = λ z. absurd (true_false z (body_plain s head n a good.flat here m));
                 };
               };
             };
           })
 
-      body_bool : (item_of s head c.first).sort ≡ 0
+      body_bool : (item_of s head a).sort ≡ 0
       unfolding pick align
       body_bool = shared_bool _ _ (rw only at bools.0)
 
-      body_value : sec c.first ≡ value_of s head facts verdicts c.first
+      body_value : sec a ≡ value_of s head facts verdicts a
       body_value =
-          fun_ext (λ z. seconds_plain v.over.accepted facts verdicts c.first (omega (arith, body_before, v.over.exists))
+          fun_ext (λ z. seconds_plain v.over.accepted facts verdicts a (omega (arith, body_before, v.over.exists))
           (omega (arith, body_bool)) z)
 
       quantifier_sort : (item_of s head n).sort ≡ 0
       quantifier_sort = ap (λ (x : Item). x.sort) good.item ∙ bools.1
 
       -- what the sweep answers is its value
-      pub sweep_is : swept s (base + n) words lists verdicts c.first ≡ sec n e
+      pub sweep_is : swept s (base + n) words lists verdicts a ≡ sec n e
       unfolding pick
       sweep_is =
           let q = list in

@@ -15,7 +15,7 @@ use Rattle.tables.proofs.Bools.{true_false, bool_cases, and_left, and_right, and
 use Rattle.tables.proofs.Grown.{strong}
 use Rattle.tables.proofs.Lists.{Before}
 use Rattle.signed.specs.Words.{num}
-use Rattle.words.specs.declared.Words.{Words}
+use Rattle.words.specs.declared.Record.{Record}
 use Rattle.layout.specs.declared.Header.{Header}
 use Rattle.item.specs.Units.{converted}
 use Rattle.node.specs.FactValues.{FactValue, no_value, elements_in}
@@ -107,7 +107,7 @@ module _ {s : List ℤ} {h : Header} (a : Accepted s h) (facts : List FactValue)
 -- but for an element's node, no row looks at the element
 abbrev Unmoved : Row → Type 0
 Unmoved r =
-    (w : Words) (facts : List FactValue) (verdicts : List ℤ) (d e x y : ℤ) (body : ℤ → ℤ) → r.elements w ≡ []
+    (w : Record ℤ) (facts : List FactValue) (verdicts : List ℤ) (d e x y : ℤ) (body : ℤ → ℤ) → r.elements w ≡ []
     → r.value (seen w facts verdicts d x y body) ≡ r.value (seen w facts verdicts e x y body)
 
 unmoved : (k : ℕ) → Unmoved (row_of k)

@@ -31,10 +31,9 @@ use Rattle.item.specs.Items.{none, span, align, compared}
 use Rattle.item.proofs.Units.{align_order}
 use Rattle.item.specs.Inner.{Small}
 use Rattle.node.specs.declared.Given.{Given}
-use Rattle.node.specs.declared.Kids.{Kids}
 use Rattle.node.specs.FactValues.{FactValue, Single, Listed, no_value, value_in, elements_in}
-use Rattle.node.specs.Rows.{Row, names_fact, comparison, row_of, fits}
-use Rattle.node.specs.Judged.{SmallKids, kids}
+use Rattle.node.specs.Rows.{Row, names_fact, comparison, row_of}
+use Rattle.node.specs.Judged.{SmallKids}
 use Rattle.node.proofs.Lawful.{Of, Known, align_of, lawful}
 use Rattle.records.specs.Accepted.{Accepted}
 use Rattle.records.specs.Facts.{is_list, min_of, largest_of, fact_item}
@@ -43,7 +42,7 @@ use Rattle.records.proofs.FactLaws.{fact_ok}
 use Rattle.records.proofs.NodeLaws.{NodeOk, node_ok}
 use Rattle.tree.specs.Inner.{row_at, children_at, BaseOf}
 use Rattle.predicate.specs.Base.{given_at, Rangeable, RangeAt}
-use Rattle.tree.proofs.TreeLaws.{none_named, one_named, two_named}
+use Rattle.tree.proofs.TreeLaws.{named}
 use Rattle.predicate.proofs.BaseLaws.{ranged}
 use Rattle.predicate.proofs.ValueLaws.{Within, none_of}
 
@@ -254,15 +253,14 @@ module _ {s : List ℤ} {base rules n : ℕ} (v : RangeAt s base rules n) where
         gives = met (λ (r : Row) (g : Given). r.gives g) x y cs e p q ∙ sym ok.item;
       }
 
-  module _ (c : Kids) (k : kids c ≡ children_at s (base + n)) where
-    pub range_none : c.count ≡ 0 → Ranged none none
-    unfolding pick
-    range_none e = range_as none none [] (none_named (ranged v) c k e) refl refl
+  pub range_none : [] ≡ children_at s (base + n) → Ranged none none
+  unfolding pick
+  range_none k = range_as none none [] (named (ranged v) k) refl refl
 
-    pub range_one : {x : Item} → c.count ≡ 1 → x ≡ item c.first → Ranged x none
-    unfolding pick
-    range_one e p = range_as _ none (c.first ∷ []) (one_named (ranged v) c k e) p refl
+  pub range_one : {a : ℕ} {x : Item} → (a ∷ []) ≡ children_at s (base + n) → x ≡ item a → Ranged x none
+  unfolding pick
+  range_one k p = range_as _ none _ (named (ranged v) k) p refl
 
-    pub range_two : {x y : Item} → (c.count ≡ 0 → ⊥) → (c.count ≡ 1 → ⊥) → x ≡ item c.first → y ≡ item c.second → Ranged x y
-    unfolding pick
-    range_two d e p q = range_as _ _ (c.first ∷ c.second ∷ []) (two_named (ranged v) c k d e) p q
+  pub range_two : {a b : ℕ} {x y : Item} → (a ∷ b ∷ []) ≡ children_at s (base + n) → x ≡ item a → y ≡ item b → Ranged x y
+  unfolding pick
+  range_two k p q = range_as _ _ _ (named (ranged v) k) p q

@@ -1,19 +1,20 @@
 -- The scans: of the sheet's transitions for the initial state, and of the kept moves for a later one.
 -- Assumes nothing.
-use mathlib.Core.Path.{◌≡◌, refl, sym, ap, subst, ◌∙◌}
+use mathlib.Core.Path.{◌≡◌, refl, sym, ap, ◌∙◌}
 use mathlib.Core.Bool.{Bool, true, false, ◌&&◌, ◌||◌}
-use mathlib.Core.List.{List}
-use Prim.Native.Nat.{ℕ, ◌+◌, ◌*◌, ◌≤◌, ◌<◌}
+use mathlib.Core.List.{List, []}
+use Prim.Native.Nat.{ℕ, ◌+◌, ◌≤◌, ◌<◌}
 use lib.IntN.{ℤ}
 use lib.ListN.{length, get_or, set, replicate, length-set, length-replicate, get_or-replicate}
-use lib.Seq.{get_or-set_other}
+use lib.Seq.{get_or-set_same, get_or-set_other}
 use lib.Dec.{eqb}
 use native.Mathlib.Omega.{arith}
+use native.Mathlib.Decide.{ℕ_discrete}
 use borrow.Author.Tests.{eq-eqb, ne_eqb}
-use Rattle.tables.proofs.Bools.{tests, or_assoc, same_tests}
+use Rattle.tables.proofs.Bools.{or_assoc}
 use Rattle.tables.specs.Scan.{any_below}
 use Rattle.tables.specs.Inner.{marked}
-use Rattle.tables.proofs.Scans.{any_zero, any_more, any_same}
+use Rattle.tables.proofs.Scans.{any_zero, any_more}
 use Rattle.tables.proofs.Entries.{stored, or_false, length_marked, marked_flags}
 use Rattle.words.specs.declared.Record.{Record}
 use Rattle.words.specs.Record.{record_at}
@@ -23,7 +24,7 @@ use Rattle.layout.specs.Tables.{transition}
 use Rattle.records.specs.Accepted.{Accepted}
 use Rattle.records.proofs.OperationLaws.{entity_ok, transition_ok}
 use Rattle.reach.specs.Moves.{leaves, leads}
-use Rattle.reach.specs.Inner.{leads_by, moves_by, Flagging, Spread, Kept, Joined}
+use Rattle.reach.specs.Inner.{leads_by, Flagging, Spread, Kept, Joined}
 
 -- ---- flags that are set one by one
 
@@ -46,7 +47,7 @@ module _ (f : ℕ → ℕ → Bool) (size : ℕ) (before : List Bool) where
 -- ---- the sheet's transitions, for state a
 
 -- a transition leads from and to one of sixteen states
-pub states_few : {s : List ℤ} {h : Header} → Accepted s h → {k base : ℕ} {r : Record} → k < h.transitions → base ≡ first_transition h
+pub states_few : {s : List ℤ} {h : Header} → Accepted s h → {k base : ℕ} {r : Record ℕ} → k < h.transitions → base ≡ first_transition h
     → r ≡ record_at s (base + k) → (r.w1 < 16) × (r.w2 < 16)
 states_few {s} {h} a {k} l d e =
     let q = transition_ok a k l in
@@ -54,99 +55,97 @@ states_few {s} {h} a {k} l d e =
     rw (e, d) (omega (arith, q.from, few), omega (arith, q.to, few))
 
 -- the first k transitions have been scanned
-pub record Scanning (s : List ℤ) (h : Header) (n a : ℕ) (before : List Bool) (k : ℕ) (moves found : List Bool) : Type 0 where
-  pub here : k ≤ h.transitions
-  pub kept : Flagging (moves_by s h n) 256 k (replicate 256 false) moves
+pub record Scanning (s : List ℤ) (h : Header) (n a : ℕ) (before : List Bool) (k : ℕ) (moves : List (List Bool)) (found : List Bool) : Type 0 where
+  pub long : length moves ≡ 16
+  pub kept : (b : ℕ) → b < 16 → Flagging (leads_by s h n b) 16 k (replicate 16 false) (get_or moves b [])
   pub spread : Flagging (leads_by s h n a) 16 k before found
 
 module _ (s : List ℤ) (h : Header) (n a : ℕ) (before : List Bool) where
-  pub none : (moves : List Bool) → moves ≡ replicate 256 false → length before ≡ 16 → Scanning s h n a before 0 moves before
+  pub none : (moves : List (List Bool)) → moves ≡ replicate 16 (replicate 16 false) → length before ≡ 16 → Scanning s h n a before 0 moves before
   none moves e long =
-      record {
-        here = omega arith;
-        kept = rw e (none_flagged (moves_by s h n) 256 (replicate 256 false) (length-replicate 256 false));
+      rw e (record {
+        long = length-replicate 16 (replicate 16 false);
+        kept = λ b l. rw (get_or-replicate 16 b (replicate 16 false) [] l)
+            (none_flagged (leads_by s h n b) 16 (replicate 16 false) (length-replicate 16 false));
         spread = none_flagged (leads_by s h n a) 16 before long;
-      }
+      })
 
-  module _ (k : ℕ) (moves found : List Bool) (w : Scanning s h n a before k moves found) where
-    more : (base : ℕ) (r : Record) (on : Bool) (moves' found' : List Bool) → k < h.transitions → base ≡ first_transition h
-        → r ≡ record_at s (base + k) → on ≡ leaves n a r → moves' ≡ marked (eqb r.w0 n) (16 * r.w1 + r.w2) moves
-        → found' ≡ marked on r.w2 found → Scanning s h n a before (k + 1) moves' found'
-    unfolding leads
-    more base r on moves' found' l d e f x y =
-        let z : r ≡ transition s h k = e ∙ ap (λ (i : ℕ). record_at s (i + k)) d in
+  -- one transition more, for state b
+  lead_more : (b k : ℕ) (before t : List Bool) → Flagging (leads_by s h n b) 16 k before t → (r : Record ℕ) → r ≡ transition s h k
+      → (on : Bool) → on ≡ leaves n b r → Flagging (leads_by s h n b) 16 (k + 1) before (marked on r.w2 t)
+  unfolding leads
+  lead_more b k before t w r z on f = one_flagged (leads_by s h n b) 16 before k t w on r.w2 (marked on r.w2 t) (λ q. rw (f, z) refl) refl
+
+  module _ (k : ℕ) (moves : List (List Bool)) (found : List Bool) (w : Scanning s h n a before k moves found)
+      (r : Record ℕ) (z : r ≡ transition s h k) where
+    -- a transition of the entity
+    pub more_own : r.w0 ≡ n → r.w1 < 16 → (on : Bool) → on ≡ eqb r.w1 a
+        → Scanning s h n a before (k + 1) (set moves r.w1 (set (get_or moves r.w1 []) r.w2 true)) (marked on r.w2 found)
+    unfolding leaves
+    more_own x m on f =
+        let row = set (get_or moves r.w1 []) r.w2 true in
+        let own = eq-eqb r.w0 n x in
         record {
-          here = omega arith;
-          kept = one_flagged (moves_by s h n) 256 (replicate 256 false) k moves w.kept (eqb r.w0 n) (16 * r.w1 + r.w2) moves' (λ q. rw z refl) x;
-          spread = one_flagged (leads_by s h n a) 16 before k found w.spread on r.w2 found' (λ q. rw (f, z) refl) y;
+          long = length-set moves r.w1 row ∙ w.long;
+          kept = λ b l. go b l (ℕ_discrete b r.w1);
+          spread = lead_more a k before found w.spread r z on (f ∙ sym (rw own refl));
+        }
+      where
+        go : (b : ℕ) → b < 16 → Dec (b ≡ r.w1)
+            → Flagging (leads_by s h n b) 16 (k + 1) (replicate 16 false) (get_or (set moves r.w1 (set (get_or moves r.w1 []) r.w2 true)) b [])
+        go b l (yes e) =
+            rw (e, get_or-set_same moves r.w1 (set (get_or moves r.w1 []) r.w2 true) [] (omega (arith, w.long)))
+            (lead_more r.w1 k (replicate 16 false) (get_or moves r.w1 []) (w.kept r.w1 m) r z true
+            (sym (rw (eq-eqb r.w0 n x, eq-eqb r.w1 r.w1 refl) refl)))
+        go b l (no c) =
+            rw (get_or-set_other moves r.w1 b (set (get_or moves r.w1 []) r.w2 true) [] c)
+            (lead_more b k (replicate 16 false) (get_or moves b []) (w.kept b l) r z false
+            (sym (rw (eq-eqb r.w0 n x, ne_eqb r.w1 b (λ t. c (sym t))) refl)))
+
+    -- and one of another
+    pub more_other : (r.w0 ≡ n → ⊥) → Scanning s h n a before (k + 1) moves found
+    unfolding leaves
+    more_other x =
+        record {
+          long = w.long;
+          kept = λ b l. lead_more b k (replicate 16 false) (get_or moves b []) (w.kept b l) r z false (sym (rw (ne_eqb r.w0 n x) refl));
+          spread = lead_more a k before found w.spread r z false (sym (rw (ne_eqb r.w0 n x) refl));
         }
 
-    -- a transition of the entity, and one of another
-    module _ (base : ℕ) (r : Record) (l : k < h.transitions) (d : base ≡ first_transition h) (e : r ≡ record_at s (base + k)) where
-      pub more_own : (on : Bool) (found' : List Bool) → r.w0 ≡ n → on ≡ leaves n a r → found' ≡ marked on r.w2 found
-          → Scanning s h n a before (k + 1) (set moves (16 * r.w1 + r.w2) true) found'
-      more_own on found' x f y = more base r on _ found' l d e f (rw (eq-eqb r.w0 n x) refl) y
-
-      pub more_other : (r.w0 ≡ n → ⊥) → Scanning s h n a before (k + 1) moves found
-      unfolding leaves
-      more_other x = more base r false moves found l d e (sym (rw (ne_eqb r.w0 n x) refl)) (sym (rw (ne_eqb r.w0 n x) refl)) refl
-
-    module _ (g : h.transitions ≤ k) where
-      all : k ≡ h.transitions
-      all = omega (arith, w.here)
-
-      pub all_kept : Kept s h n moves
-      all_kept = subst (λ (i : ℕ). Flagging (moves_by s h n) 256 i (replicate 256 false) moves) all w.kept
-
-      pub all_spread : Spread s h n a before found
-      all_spread = subst (λ (i : ℕ). Flagging (leads_by s h n a) 16 i before found) all w.spread
-
--- ---- the kept moves, from state a
+-- ---- the kept moves from one state
 
 -- the first q of them have been scanned
-pub record Joining (moves : List Bool) (a : ℕ) (before : List Bool) (q : ℕ) (after : List Bool) : Type 0 where
-  pub here : q ≤ 16
+pub record Joining (row before : List Bool) (q : ℕ) (after : List Bool) : Type 0 where
   pub long : length after ≡ 16
-  pub each : (j : ℕ) → j < q → get_or after j false ≡ (get_or before j false || get_or moves (16 * a + j) false)
+  pub each : (j : ℕ) → j < q → get_or after j false ≡ (get_or before j false || get_or row j false)
   pub rest : (j : ℕ) → q ≤ j → get_or after j false ≡ get_or before j false
 
-module _ (moves : List Bool) (a : ℕ) (before : List Bool) where
-  pub no_move : length before ≡ 16 → Joining moves a before 0 before
-  no_move long = record { here = omega arith; long = long; each = λ j l. absurd (omega arith); rest = λ j l. refl }
+module _ (row before : List Bool) where
+  pub no_move : length before ≡ 16 → Joining row before 0 before
+  no_move long = record { long = long; each = λ j l. absurd (omega arith); rest = λ j l. refl }
 
-  module _ (q : ℕ) (t : List Bool) (w : Joining moves a before q t) where
-    pub one_move : (row : ℕ) → row ≡ 16 * a → q < 16 → Joining moves a before (q + 1) (set t q (get_or t q false || get_or moves (row + q) false))
-    one_move row e l =
-        let v = get_or t q false || get_or moves (row + q) false in
+  module _ (q : ℕ) (t : List Bool) (w : Joining row before q t) where
+    pub one_move : q < 16 → Joining row before (q + 1) (set t q (get_or t q false || get_or row q false))
+    one_move l =
+        let v = get_or t q false || get_or row q false in
         record {
-          here = omega arith;
           long = length-set t q v ∙ w.long;
           each =
-              stored (λ (j : ℕ). get_or before j false || get_or moves (16 * a + j) false) false t q v (omega (arith, w.long)) w.each
-              (rw (w.rest q (omega arith), e) refl);
+              stored (λ (j : ℕ). get_or before j false || get_or row j false) false t q v (omega (arith, w.long)) w.each
+              (rw (w.rest q (omega arith)) refl);
           rest = λ j m. get_or-set_other t q j v false (λ z. omega (arith, z)) ∙ w.rest j (omega arith);
         }
 
-    pub all_moves : 16 ≤ q → Joined moves a before t
+    pub all_moves : 16 ≤ q → Joined row before t
     all_moves g = record { long = w.long; each = λ j l. w.each j (omega arith) }
 
 -- what the kept moves lead to from a state is what the sheet's transitions lead to
-module _ {s : List ℤ} {h : Header} (x : Accepted s h) (n a : ℕ) where
-  same_move : (q k : ℕ) → q < 16 → k < h.transitions → moves_by s h n (16 * a + q) k ≡ leads_by s h n a q k
-  unfolding leads leaves
-  same_move q k l m =
-      let few = states_few x m refl refl in
-      same_tests _ _
-      (λ p. let t = simp tests at p in simp tests ((t.0, omega (arith, t.1, few.1)), omega (arith, t.1, few.1)))
-      (λ p. let t = simp tests at p in simp tests (t.0.0, omega (arith, t.0.1, t.1)))
-
-  pub row_spread : {moves before after : List Bool} → a < 16 → Kept s h n moves → Joined moves a before after → Spread s h n a before after
-  row_spread {moves} {before} l w j =
-      record { long = j.long; each = λ q m. j.each q m ∙ ap (λ (b : Bool). get_or before q false || b) (kept_at q m) }
-    where
-      kept_at : (q : ℕ) → q < 16 → get_or moves (16 * a + q) false ≡ any_below (leads_by s h n a q) h.transitions
-      kept_at q m =
-          let i : 16 * a + q < 256 = omega arith in
-          w.each (16 * a + q) i
-          ∙ ap (λ (b : Bool). b || any_below (moves_by s h n (16 * a + q)) h.transitions) (get_or-replicate 256 (16 * a + q) false false i)
-          ∙ any_same (moves_by s h n (16 * a + q)) (leads_by s h n a q) h.transitions (λ k z. same_move q k m z)
+pub row_spread : (s : List ℤ) (h : Header) (n a : ℕ) {moves : List (List Bool)} {before after : List Bool} → a < 16 → Kept s h n moves
+    → Joined (get_or moves a []) before after → Spread s h n a before after
+row_spread s h n a {moves = moves} {before = before} l w j =
+    record { long = j.long; each = λ q m. j.each q m ∙ ap (λ (b : Bool). get_or before q false || b) (kept_at q m) }
+  where
+    kept_at : (q : ℕ) → q < 16 → get_or (get_or moves a []) q false ≡ any_below (leads_by s h n a q) h.transitions
+    kept_at q m =
+        (w.row a l).each q m
+        ∙ ap (λ (b : Bool). b || any_below (leads_by s h n a q) h.transitions) (get_or-replicate 16 q false false m)

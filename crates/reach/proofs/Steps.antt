@@ -8,10 +8,10 @@ use lib.ListN.{get_or}
 use Rattle.signed.proofs.Numbers.{num_of}
 use Rattle.words.specs.declared.Record.{Record}
 use Rattle.layout.specs.declared.Header.{Header}
-use Rattle.layout.specs.Tables.{entity, transition, effect}
+use Rattle.layout.specs.Tables.{effect}
 use Rattle.records.proofs.OperationLaws.{Declared}
 use Rattle.operation.specs.States.{present}
-use Rattle.operation.specs.declared.Wanted.{Wanted}
+use Rattle.std.specs.Prelude.{Option}
 use Rattle.operation.specs.Inner.{performed}
 use Rattle.operation.specs.Ready.{Ready}
 use Rattle.operation.proofs.Guarantees.{changes}
@@ -19,11 +19,11 @@ use Rattle.reach.specs.Reached.{Reached, along}
 
 module _ (s : List ℤ) (h : Header) (n : ℕ) where
   -- a declared transition of the entity leads from a reached state to a reached state
-  pub reached_step : (r : Record) → Declared s h r → r.w0 ≡ n → Reached s h n r.w1 → Reached s h n r.w2
+  pub reached_step : (r : Record ℕ) → Declared s h r → r.w0 ≡ n → Reached s h n r.w1 → Reached s h n r.w2
   reached_step r d e v = subst (Reached s h n) d.to (along v d.which d.exists (d.entity ∙ e) d.from)
 
 -- an operation leaves each entity in a state that is reached, where it was in one
-pub reached_after : {s : List ℤ} {h : Header} {states : List ℤ} {o : ℕ} → Ready s h states o → (d : Wanted) (n : ℕ) → n < h.entities
+pub reached_after : {s : List ℤ} {h : Header} {states : List ℤ} {o : ℕ} → Ready s h states o → (d : Option ℕ) (n : ℕ) → n < h.entities
     → Reached s h n (present states n) → Reached s h n (present (performed s h states o d) n)
 reached_after {s} {h} {states} {o} w d n l v = go (ℤ_discrete (get_or (performed s h states o d) n (pos 0)) (get_or states n (pos 0)))
   where

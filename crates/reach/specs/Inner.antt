@@ -1,18 +1,14 @@
 -- What the inner functions answer. The definitions of the other files do not rest on these.
 -- Assumes nothing.
-use Rattle.std.specs.Prelude.{◌≡◌, Bool, false, not, ◌&&◌, ◌||◌, List, ℕ, ◌+◌, ◌*◌, ◌<◌, ℤ, eqb, length, get_or, replicate}
+use Rattle.std.specs.Prelude.{◌≡◌, Bool, false, not, cond, ◌&&◌, ◌||◌, List, [], ℕ, ◌<◌, ℤ, ltb, length, get_or, replicate, Option, None, Some}
 use Rattle.tables.specs.Scan.{any_below, first_fail}
 use Rattle.layout.specs.declared.Header.{Header}
-use Rattle.layout.specs.Tables.{transition, entity_of, from_of, to_of}
+use Rattle.layout.specs.Tables.{transition}
 use Rattle.reach.specs.Moves.{leads}
 
 -- transition k leads entity n from state a to state b
 abbrev pub leads_by : List ℤ → Header → ℕ → ℕ → ℕ → ℕ → Bool
 leads_by s h n a b k = leads n a b (transition s h k)
-
--- transition k is entity n's, and move i: a move is a pair of states, from and to, by one number
-abbrev pub moves_by : List ℤ → Header → ℕ → ℕ → ℕ → Bool
-moves_by s h n i k = eqb (entity_of (transition s h k)) n && eqb (16 * from_of (transition s h k) + to_of (transition s h k)) i
 
 -- flags as they were before, with those set of which f holds for one of the first k things
 pub record Flagging (f : ℕ → ℕ → Bool) (size k : ℕ) (before after : List Bool) : Type 0 where
@@ -23,24 +19,24 @@ pub record Flagging (f : ℕ → ℕ → Bool) (size k : ℕ) (before after : Li
 abbrev pub Spread : List ℤ → Header → ℕ → ℕ → List Bool → List Bool → Type 0
 Spread s h n a before after = Flagging (leads_by s h n a) 16 h.transitions before after
 
--- the moves of entity n are kept: 16 flags for each state that they lead from
-abbrev pub Kept : List ℤ → Header → ℕ → List Bool → Type 0
-Kept s h n moves = Flagging (moves_by s h n) 256 h.transitions (replicate 256 false) moves
+-- the moves of entity n are kept: of each state, a flag for each state that it leads to
+pub record Kept (s : List ℤ) (h : Header) (n : ℕ) (moves : List (List Bool)) : Type 0 where
+  pub row : (a : ℕ) → a < 16 → Spread s h n a (replicate 16 false) (get_or moves a [])
 
 -- before the first scan no move is kept, and after it all are
-pub record Ready (s : List ℤ) (h : Header) (n scans : ℕ) (moves : List Bool) : Type 0 where
-  pub first : scans ≡ 0 → moves ≡ replicate 256 false
+pub record Ready (s : List ℤ) (h : Header) (n scans : ℕ) (moves : List (List Bool)) : Type 0 where
+  pub first : scans ≡ 0 → moves ≡ replicate 16 (replicate 16 false)
   pub later : 0 < scans → Kept s h n moves
 
--- the kept moves from state a have been scanned
-pub record Joined (moves : List Bool) (a : ℕ) (before after : List Bool) : Type 0 where
+-- the kept moves from a state have been scanned
+pub record Joined (row before after : List Bool) : Type 0 where
   pub long : length after ≡ 16
-  pub each : (q : ℕ) → q < 16 → get_or after q false ≡ (get_or before q false || get_or moves (16 * a + q) false)
+  pub each : (q : ℕ) → q < 16 → get_or after q false ≡ (get_or before q false || get_or row q false)
 
 -- state q is not found, or is scanned already
 unfoldable pub settled : List Bool → List Bool → ℕ → Bool
 settled found scanned q = not (get_or found q false && not (get_or scanned q false))
 
--- the first state that is found and not scanned, or 16 where there is none
-unfoldable pub next_open : List Bool → List Bool → ℕ
-next_open found scanned = first_fail (settled found scanned) 0 16
+-- the first state that is found and not scanned
+unfoldable pub next_open : List Bool → List Bool → Option ℕ
+next_open found scanned = let q = first_fail (settled found scanned) 0 16 in cond (ltb q 16) (Some q) None

@@ -1,44 +1,45 @@
 -- The checker's answer by its cases, and what acceptance gives: every record is good.
 -- Assumes nothing.
-use mathlib.Core.Path.{◌≡◌, refl, sym, subst, ◌∙◌}
+use Rattle.std.specs.Prelude.{Ok, Err}
+use mathlib.Core.Path.{◌≡◌, refl, sym, ◌∙◌}
 use mathlib.Core.Bool.{true, false}
 use mathlib.Core.List.{List}
 use mathlib.Core.Logic.{⊎_elim}
-use Prim.Native.Nat.{ℕ, ◌≤◌, ◌<◌}
+use Prim.Native.Nat.{ℕ, ◌+◌, ◌≤◌, ◌<◌}
 use lib.IntN.{ℤ}
 use native.Mathlib.Omega.{arith}
 use native.Mathlib.Decide.{dec_lt}
 use borrow.Author.Tests.{lt-ltb, le-ltb}
 use Rattle.answer.proofs.Distinct.{refused_done}
 use Rattle.tables.proofs.Bools.{bool_cases}
-use Rattle.tables.proofs.Scanned.{Scanned, first_fail_lem, first_scan}
+use Rattle.tables.proofs.Scanned.{first_scan}
 use Rattle.answer.specs.declared.Refusal.TheVariants.{Header as BadHeader, Group, Record as BadRecord}
-use Rattle.answer.specs.declared.Status.TheVariants.{Done, Refused}
 use Rattle.layout.specs.declared.Header.{Header}
 use Rattle.layout.specs.Header.{header_of, good_header, records}
 use Rattle.layout.specs.Groups.{good_groups}
 use Rattle.layout.proofs.Limits.{sized}
 use Rattle.records.specs.Accept.{tables_of, good_in, first_bad, checked}
 use Rattle.records.specs.Accepted.{Accepted}
-use Rattle.records.proofs.Chain.{First, total, first_scanned, first_good, rest_good}
+use Rattle.records.specs.Scans.{scanned}
+use Rattle.records.proofs.Chain.{total, first_good, rest_good}
 
 -- ---- the answer, case by case
 
 module _ (s : List ℤ) where
-  pub bad_header : good_header s ≡ false → checked s ≡ Refused BadHeader
+  pub bad_header : good_header s ≡ false → checked s ≡ Err BadHeader
   unfolding checked
   bad_header p = rw (p, checked)
 
-  pub bad_group : good_header s ≡ true → good_groups s (header_of s) ≡ false → checked s ≡ Refused Group
+  pub bad_group : good_header s ≡ true → good_groups s (header_of s) ≡ false → checked s ≡ Err Group
   unfolding checked
   bad_group p q = rw (p, q, checked)
 
   pub bad_record : good_header s ≡ true → good_groups s (header_of s) ≡ true → first_bad s (header_of s) < records (header_of s)
-      → checked s ≡ Refused (BadRecord (first_bad s (header_of s)))
+      → checked s ≡ Err (BadRecord (first_bad s (header_of s)))
   unfolding checked
   bad_record p q l = rw (p, q, lt-ltb (first_bad s (header_of s)) (records (header_of s)) l, checked)
 
-  pub no_fault : good_header s ≡ true → good_groups s (header_of s) ≡ true → records (header_of s) ≤ first_bad s (header_of s) → checked s ≡ Done
+  pub no_fault : good_header s ≡ true → good_groups s (header_of s) ≡ true → records (header_of s) ≤ first_bad s (header_of s) → checked s ≡ Ok tt
   unfolding checked
   no_fault p q l = rw (p, q, le-ltb (first_bad s (header_of s)) (records (header_of s)) l, checked)
 
@@ -48,16 +49,31 @@ total_records : (s : List ℤ) (h : Header) → total (tables_of s h) ≡ record
 unfolding total tables_of
 total_records s h = omega arith
 
--- a walk through the tables finds the first bad record
-pub found : (s : List ℤ) (h : Header) (k : ℕ) → First (tables_of s h) k → first_bad s h ≡ k
-unfolding first_bad
-found s h k r =
-    first_fail_lem (good_in (tables_of s h)) (records h) k
-    (subst (λ (n : ℕ). Scanned (good_in (tables_of s h)) 0 n k) (total_records s h) (first_scanned r))
+-- a scan of all records answers it
+pub all_bad : (s : List ℤ) → good_header s ≡ true → good_groups s (header_of s) ≡ true → {k : ℕ}
+    → Err k ≡ scanned 0 (good_in (tables_of s (header_of s))) (records (header_of s)) → checked s ≡ Err (BadRecord k)
+unfolding first_bad scanned
+all_bad s p q {k} e = go (dec_lt (first_bad s (header_of s)) (records (header_of s)))
+  where
+    go : Dec (first_bad s (header_of s) < records (header_of s)) → checked s ≡ Err (BadRecord k)
+    go (yes l) = let z = rw (lt-ltb (first_bad s (header_of s)) (records (header_of s)) l) at e in
+        let sum : k ≡ 0 + first_bad s (header_of s) = cc in
+        let same : k ≡ first_bad s (header_of s) = omega arith in
+        rw same (bad_record s p q l)
+    go (no n) = let z = rw (le-ltb (first_bad s (header_of s)) (records (header_of s)) (omega arith)) at e in absurd cc
+
+pub all_fine : (s : List ℤ) → good_header s ≡ true → good_groups s (header_of s) ≡ true
+    → Ok tt ≡ scanned 0 (good_in (tables_of s (header_of s))) (records (header_of s)) → checked s ≡ Ok tt
+unfolding first_bad scanned
+all_fine s p q e = go (dec_lt (first_bad s (header_of s)) (records (header_of s)))
+  where
+    go : Dec (first_bad s (header_of s) < records (header_of s)) → checked s ≡ Ok tt
+    go (yes l) = let z = rw (lt-ltb (first_bad s (header_of s)) (records (header_of s)) l) at e in absurd cc
+    go (no n) = no_fault s p q (omega arith)
 
 -- ---- acceptance
 
-module _ (s : List ℤ) (a : checked s ≡ Done) where
+module _ (s : List ℤ) (a : checked s ≡ Ok tt) where
   pub header_good : good_header s ≡ true
   header_good = ⊎_elim (λ p. p) (λ p. absurd (refused_done (sym (bad_header s p) ∙ a))) (bool_cases (good_header s))
 
@@ -78,7 +94,7 @@ module _ (s : List ℤ) (a : checked s ≡ Done) where
       (omega (arith, total_records s (header_of s), none_bad))
 
 -- every record of an accepted sheet is good
-pub accepted : (s : List ℤ) → checked s ≡ Done → Accepted s (header_of s)
+pub accepted : (s : List ℤ) → checked s ≡ Ok tt → Accepted s (header_of s)
 unfolding tables_of total
 accepted s a =
     let h0 = all_good s a in

@@ -37,17 +37,17 @@ pub record StepOk (s : List ℤ) (h : Header) (i : ℕ) : Type 0 where
   pub inside : routes_end s h i ≤ h.routes
 
 -- the two kinds of step: an operation by a persona, with a route for each outcome and one for failure; a branch on a node, with two
-pub data StepKind (s : List ℤ) (h : Header) (r : Record) : Type 0 where
+pub data StepKind (s : List ℤ) (h : Header) (r : Record ℕ) : Type 0 where
   performs : r.w0 ≡ 0 → r.w1 < h.operations → r.w2 < h.personas → r.w4 ≡ (operation s h r.w1).w4 + 1 → StepKind s h r
   branches : r.w0 ≡ 1 → r.w1 < h.nodes → (item_of s h r.w1).sort ≡ 0 → closed s h r.w1 ≡ true → r.w4 ≡ 2 → StepKind s h r
 
 -- the two kinds of route: to a step after `owner` and before `end`, or to a terminal
-pub data RouteKind (owner end : ℕ) (r : Record) : Type 0 where
+pub data RouteKind (owner end : ℕ) (r : Record ℕ) : Type 0 where
   leads : r.w0 ≡ 0 → owner < r.w1 → r.w1 < end → RouteKind owner end r
   ends : r.w0 ≡ 1 → r.w1 ≤ 2 → RouteKind owner end r
 
 -- the test of a step's kind
-step_kind : (s : List ℤ) (h : Header) (r : Record) (named : Bool)
+step_kind : (s : List ℤ) (h : Header) (r : Record ℕ) (named : Bool)
     → cond (eqb r.w0 0) (good_operation_step s h r) (cond (eqb r.w0 1) (good_branch_step s h r named) false) ≡ true → StepKind s h r
 unfolding good_operation_step good_branch_step good_root
 step_kind s h r named p = go (ℕ_discrete r.w0 0) (ℕ_discrete r.w0 1)
@@ -60,7 +60,7 @@ step_kind s h r named p = go (ℕ_discrete r.w0 0) (ℕ_discrete r.w0 1)
     go (no n) (no m) = absurd (true_false refl (sym (rw (ne_eqb r.w0 0 n, ne_eqb r.w0 1 m) at p)))
 
 -- the test of a route
-route_kind : (owner end : ℕ) (r : Record) → good_route_of owner end r ≡ true → RouteKind owner end r
+route_kind : (owner end : ℕ) (r : Record ℕ) → good_route_of owner end r ≡ true → RouteKind owner end r
 unfolding good_route_of
 route_kind owner end r p = go (ℕ_discrete r.w0 0)
   where
@@ -69,7 +69,7 @@ route_kind owner end r p = go (ℕ_discrete r.w0 0)
     go (no n) = let q = simp tests at (rw (ne_eqb r.w0 0 n) at p) in ends q.0.0 q.0.1
 
 -- a step has at least one route
-some_routes : (s : List ℤ) (h : Header) (r : Record) → StepKind s h r → 1 ≤ r.w4
+some_routes : (s : List ℤ) (h : Header) (r : Record ℕ) → StepKind s h r → 1 ≤ r.w4
 some_routes s h r (performs e o q c) = omega arith
 some_routes s h r (branches e o t l c) = omega arith
 

@@ -1,6 +1,6 @@
-pub mod Shift
 pub mod Parts
 pub mod Chain
+pub mod Scans
 pub mod Acceptance
 pub mod FactLaws
 pub mod NodeLaws

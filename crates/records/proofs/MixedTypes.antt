@@ -1,5 +1,6 @@
 -- A sum, a difference or a comparison of two types that do not meet is a bad record.
 -- Assumes nothing.
+use Rattle.std.specs.Prelude.{Err}
 use mathlib.Core.Path.{◌≡◌, refl, sym, ap, ◌∙◌}
 use mathlib.Core.Bool.{Bool, true, false, ◌&&◌, ◌||◌}
 use mathlib.Core.List.{List}
@@ -14,7 +15,6 @@ use Rattle.tables.proofs.Scanned.{fail_at}
 use Rattle.signed.specs.Words.{num}
 use Rattle.signed.proofs.Parts.{false_by}
 use Rattle.answer.specs.declared.Refusal.TheVariants.{Record as BadRecord}
-use Rattle.answer.specs.declared.Status.TheVariants.{Refused}
 use Rattle.layout.specs.declared.Header.{Header}
 use Rattle.layout.specs.Header.{header_of, good_header, records}
 use Rattle.layout.specs.Groups.{good_groups}
@@ -77,10 +77,10 @@ module _ (s : List ℤ) (n : ℕ) (header : good_header s ≡ true) (groups : go
   pub mixed_refused : TakesTwo (num (node_words s (header_of s) n).w0)
       → (is_duration (first s (header_of s) n) && is_duration (second s (header_of s) n)) ≡ false
       → (first s (header_of s) n ≡ second s (header_of s) n → ⊥)
-      → checked s ≡ Refused (BadRecord ((header_of s).facts + n))
+      → checked s ≡ Err (BadRecord ((header_of s).facts + n))
   unfolding first_bad
   mixed_refused k d e =
       let h = header_of s in
       let in_all : h.facts + n < records h = omega (arith, l) in
       let at = fail_at (good_in (tables_of s h)) (records h) (h.facts + n) in_all earlier (node_in s h n l ∙ mixed_bad s h n k d e) in
-      bad_record s header groups (rw (sym at) in_all) ∙ ap (λ (k : ℕ). Refused (BadRecord k)) (sym at)
+      bad_record s header groups (rw (sym at) in_all) ∙ ap (λ (k : ℕ). Err (BadRecord k)) (sym at)

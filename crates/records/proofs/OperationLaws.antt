@@ -32,13 +32,13 @@ pub record EntityOk (s : List ℤ) (h : Header) (n : ℕ) : Type 0 where
   pub initial : (entity s h n).w1 < states s h n
 
 -- a transition or an effect: its entity, from and to exist
-pub record ChangeOk (s : List ℤ) (h : Header) (r : Record) : Type 0 where
+pub record ChangeOk (s : List ℤ) (h : Header) (r : Record ℕ) : Type 0 where
   pub entity : r.w0 < h.entities
   pub from : r.w1 < states s h r.w0
   pub to : r.w2 < states s h r.w0
 
 -- some transition has the entity, from and to of r
-pub record Declared (s : List ℤ) (h : Header) (r : Record) : Type 0 where
+pub record Declared (s : List ℤ) (h : Header) (r : Record ℕ) : Type 0 where
   pub which : ℕ
   pub exists : which < h.transitions
   pub entity : (transition s h which).w0 ≡ r.w0
@@ -70,11 +70,11 @@ pub record EffectOk (s : List ℤ) (h : Header) (o e : ℕ) : Type 0 where
   pub transition : Declared s h (effect s h e)
   pub below : outcome s h e < (operation s h o).w4
 
-change : (s : List ℤ) (h : Header) (r : Record) → good_change s h r ≡ true → ChangeOk s h r
+change : (s : List ℤ) (h : Header) (r : Record ℕ) → good_change s h r ≡ true → ChangeOk s h r
 unfolding good_change
 change s h r p = let q = simp tests at p in omega arith
 
-named : (s : List ℤ) (h : Header) (r : Record) → declared s h h.transitions r ≡ true → Declared s h r
+named : (s : List ℤ) (h : Header) (r : Record ℕ) → declared s h h.transitions r ≡ true → Declared s h r
 unfolding declared same_change
 named s h r p =
     let w = any_at (λ j. same_change (transition s h j) r) h.transitions p in

@@ -1,10 +1,9 @@
 -- 01, refusals 1, 2 and 3: the first bad record, and acceptance.
 -- Assumes nothing.
-use Rattle.std.specs.Prelude.{ℕ, ◌-◌, ℤ, Bool, true, false, List, [], ◌∷◌, ltb}
+use Rattle.std.specs.Prelude.{ℕ, ◌-◌, ℤ, Bool, true, false, List, [], ◌∷◌, ltb, Ok, Err}
 use Rattle.tables.specs.Scan.{first_fail}
 use Rattle.answer.specs.declared.Refusal.TheVariants.{Header as BadHeader, Group, Record as BadRecord}
-use Rattle.answer.specs.declared.Status.{Status}
-use Rattle.answer.specs.declared.Status.TheVariants.{Done, Refused}
+use Rattle.answer.specs.Answers.{Status}
 use Rattle.layout.specs.declared.Header.{Header}
 use Rattle.layout.specs.Header.{header_of, good_header, records}
 use Rattle.layout.specs.Groups.{good_groups}
@@ -49,9 +48,9 @@ first_bad s h = first_fail (good_in (tables_of s h)) 0 (records h)
 unfoldable pub checked : List ℤ → Status
 checked s =
     elim (good_header s) [
-      | false ↦ Refused BadHeader
+      | false ↦ Err BadHeader
       | true ↦ elim (good_groups s (header_of s)) [
-        | false ↦ Refused Group
-        | true ↦ elim (ltb (first_bad s (header_of s)) (records (header_of s))) [ true ↦ Refused (BadRecord (first_bad s (header_of s))) | false ↦ Done ]
+        | false ↦ Err Group
+        | true ↦ elim (ltb (first_bad s (header_of s)) (records (header_of s))) [ true ↦ Err (BadRecord (first_bad s (header_of s))) | false ↦ (Ok tt) ]
       ]
     ]

@@ -13,12 +13,12 @@ unfoldable pub good_flow : List ℤ → Header → ℕ → Bool
 good_flow s h k = eqb (step_start_of (flow s h k)) (sum_below (step_count s h) k) && leb 1 (step_count_of (flow s h k)) && unused 2 (flow s h k)
 
 -- kind 0: operation, persona, first route, routes = outcomes + 1
-unfoldable pub good_operation_step : List ℤ → Header → Record → Bool
+unfoldable pub good_operation_step : List ℤ → Header → Record ℕ → Bool
 good_operation_step s h r =
     ltb (operation_named r) h.operations && ltb (persona_named r) h.personas && eqb (route_count_of r) (outcomes_of (operation s h (operation_named r)) + 1)
 
 -- kind 1: node, 0, first route, 2 routes
-unfoldable pub good_branch_step : List ℤ → Header → Record → Bool → Bool
+unfoldable pub good_branch_step : List ℤ → Header → Record ℕ → Bool → Bool
 good_branch_step s h r named = good_root s h (node_named r) named && eqb (persona_named r) 0 && eqb (route_count_of r) 2
 
 unfoldable pub good_step : List ℤ → Header → ℕ → Bool
@@ -44,7 +44,7 @@ unfoldable pub step_of : List ℤ → Header → ℕ → ℕ
 step_of s h r = first_fail (λ i. leb (routes_end s h i) r) 0 h.steps
 
 -- kind 0: a step after `owner` and before `end`, the end of the owner's flow; kind 1: terminal 0 success, 1 failure, 2 escalation
-unfoldable pub good_route_of : ℕ → ℕ → Record → Bool
+unfoldable pub good_route_of : ℕ → ℕ → Record ℕ → Bool
 good_route_of owner end r =
     cond (eqb (kind_of r) 0) (ltb owner (target_of r) && ltb (target_of r) end) (eqb (kind_of r) 1 && leb (target_of r) 2) && unused 2 r
 

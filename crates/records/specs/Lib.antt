@@ -1,3 +1,4 @@
+pub mod Types
 pub mod Facts
 pub mod Nodes
 pub mod Names
@@ -7,3 +8,4 @@ pub mod Operations
 pub mod Flows
 pub mod Accept
 pub mod Accepted
+pub mod Scans

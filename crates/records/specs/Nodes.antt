@@ -5,7 +5,7 @@ use Rattle.tables.specs.Scan.{any_below}
 use Rattle.tables.specs.Table.{entry}
 use Rattle.tables.specs.Lists.{has, all_of, any_of, distinct, joined, pick}
 use Rattle.signed.specs.Words.{num}
-use Rattle.words.specs.declared.Words.{Words}
+use Rattle.words.specs.declared.Record.{Record}
 use Rattle.words.specs.Record.{words_at}
 use Rattle.layout.specs.declared.Header.{Header}
 use Rattle.layout.specs.Header.{first_node}
@@ -17,7 +17,7 @@ use Rattle.node.specs.Rows.{Row, row_of, fits, converts}
 use Rattle.records.specs.Facts.{fact_of}
 
 -- the words of node n, and the row of its kind
-abbrev pub node_words : List ℤ → Header → ℕ → Words
+abbrev pub node_words : List ℤ → Header → ℕ → Record ℤ
 node_words s h n = words_at s (first_node h + n)
 
 abbrev pub node_row : List ℤ → Header → ℕ → Row

@@ -7,6 +7,7 @@ ghost use Rattle.signed.specs.Words.{bounded as in_bounds};
 ghost use Rattle.layout.specs.Sized.{Sized};
 ghost use Rattle.layout.specs.Tables.{fact};
 ghost use Rattle.node.specs.FactTypes.{fact_type_of};
+ghost use Rattle.records.specs.Types.{type_number, Decodes};
 ghost use Rattle.records.specs.Facts.{good_default, good_tail, set_of, fact_item, is_list};
 ghost use Rattle.records.specs.Nodes.{named_fact, no_fact};
 ghost use Rattle.records.specs.Accepted.{GoodFacts};
@@ -15,11 +16,14 @@ ghost use Rattle.records.specs.Entities.{states, good_entity, good_change};
 ghost use Rattle.records.specs.Operations.{outcomes, good_mask, good_operation, good_outcome};
 ghost use Rattle.records.specs.Flows.{good_operation_step, good_route_of};
 
-use item::{Item, span};
-use layout::{Entity, Header, Operation, Rule, place};
+mod contract;
+
+pub use contract::Contract;
+use item::Item;
+use layout::{Entity, Header, Operation, Rule, Sheet, place};
 use node::Named;
 use signed::{at_most, bounded, same, within};
-use words::{Record, number, unused, word};
+use words::{Record, number, word};
 
 // The bounds of a fact that is a number.
 fn in_order(min: i64, max: i64) -> bool
@@ -28,55 +32,86 @@ fn in_order(min: i64, max: i64) -> bool
     bounded(min) & at_most(min, max) & bounded(max)
 }
 
-// The tests of a fact by its type.
-pub fn good_bounds(kind: usize, min: i64, max: i64) -> bool
-    ensures { result ≡ (fact_type_of kind).bounds min max }
-{
-    let number = in_order(min, max);
-    let zero = same(min, 0);
-    match kind {
-        0 => zero & same(max, 1),
-        1 => number,
-        2 => zero & within(0, max, 255),
-        3 => number,
-        4 => number,
-        5.. => false,
+// The types of a fact's values, which have the numbers 0 to 4.
+#[derive(Clone, Copy)]
+pub enum ValueType {
+    Bool,
+    Int,
+    Enum,
+    Money,
+    Duration,
+}
+
+// A number that is no type's.
+#[derive(Clone, Copy)]
+pub struct UnknownType(pub usize);
+
+// The number of a list among the types of facts.
+const LIST: usize = 5;
+
+impl TryFrom<usize> for ValueType {
+    type Error = UnknownType;
+
+    ghost try_from_gives = { Decodes };
+
+    fn try_from(n: usize) -> Result<Self, UnknownType> {
+        match n {
+            0 => Ok(ValueType::Bool),
+            1 => Ok(ValueType::Int),
+            2 => Ok(ValueType::Enum),
+            3 => Ok(ValueType::Money),
+            4 => Ok(ValueType::Duration),
+            5.. => Err(UnknownType(n)),
+        }
     }
 }
 
-pub fn good_set(kind: usize, set: usize) -> bool
-    ensures { result ≡ (fact_type_of kind).takes_set set }
-{
-    match kind {
-        0 => set == 0,
-        1 => set <= 0,
-        2 => set <= 127,
-        3 => set <= 127,
-        4 => set <= 3,
-        5.. => false,
+impl ValueType {
+    // The type of a fact's values, from its type and its element type: of a list that of its elements.
+    pub fn of(kind: usize, element: usize) -> Result<ValueType, UnknownType>
+        ensures { Decodes (cond (eqb kind 5) element kind) result }
+    {
+        ValueType::try_from(if kind == LIST { element } else { kind })
     }
-}
 
-// The type of a fact's values.
-fn fact_sort(kind: usize, set: usize) -> usize
-    requires { set ≤ 127 }
-    ensures { result ≡ (fact_type_of kind).sort set }
-{
-    match kind {
-        0 => 0,
-        1 => 1 + set,
-        2 => 2 + set,
-        3 => 130 + set,
-        4 => 258 + set,
-        5.. => 0,
+    // Whether min and max are as the type wants them.
+    #[tactic(auto, unfolding(node::specs::FactTypes::fact_type_of))]
+    pub fn good_bounds(self, min: i64, max: i64) -> bool
+        ensures { result ≡ (fact_type_of (type_number self)).bounds min max }
+    {
+        match self {
+            ValueType::Bool => same(min, 0) & same(max, 1),
+            ValueType::Enum => same(min, 0) & within(0, max, 255),
+            ValueType::Int | ValueType::Money | ValueType::Duration => in_order(min, max),
+        }
     }
-}
 
-// The type of a fact's values: of a list that of its elements.
-pub fn value_type(kind: usize, element: usize) -> usize
-    ensures { result ≡ cond (eqb kind 5) element kind }
-{
-    if kind == 5 { element } else { kind }
+    // Whether the value set is.
+    #[tactic(auto, unfolding(node::specs::FactTypes::fact_type_of))]
+    pub fn good_set(self, set: usize) -> bool
+        ensures { result ≡ (fact_type_of (type_number self)).takes_set set }
+    {
+        match self {
+            ValueType::Bool | ValueType::Int => set == 0,
+            ValueType::Enum | ValueType::Money => set <= 127,
+            ValueType::Duration => set <= 3,
+        }
+    }
+
+    // The type of the values, by its number among all nodes' types.
+    #[tactic(auto, unfolding(node::specs::FactTypes::fact_type_of))]
+    fn sort(self, set: usize) -> usize
+        requires { set ≤ 127 }
+        ensures { result ≡ (fact_type_of (type_number self)).sort set }
+    {
+        match self {
+            ValueType::Bool => 0,
+            ValueType::Int => 1 + set,
+            ValueType::Enum => 2 + set,
+            ValueType::Money => 130 + set,
+            ValueType::Duration => 258 + set,
+        }
+    }
 }
 
 // The type and range of a fact's values.
@@ -84,16 +119,19 @@ fn fact_item(s: &[i64], k: usize) -> Item
     requires { (16 + 8 * k + 8 ≤ length s.now) × (set_of s.now k ≤ 127) }
     ensures { result ≡ fact_item s.now k }
 {
-    let kind = value_type(
+    let values = ValueType::of(
         number(s, k, place::FACT_TYPE),
         number(s, k, place::FACT_ELEMENT_TYPE),
     );
-    let sort = fact_sort(kind, number(s, k, place::FACT_SET));
-    span(
+    let sort = match values {
+        Ok(t) => t.sort(number(s, k, place::FACT_SET)),
+        Err(_) => 0,
+    };
+    Item {
         sort,
-        word(s, k, place::FACT_MIN),
-        word(s, k, place::FACT_MAX),
-    )
+        low: word(s, k, place::FACT_MIN),
+        high: word(s, k, place::FACT_MAX),
+    }
 }
 
 // Whether a fact is a list.
@@ -101,7 +139,7 @@ pub fn is_list(s: &[i64], k: usize) -> bool
     requires { 16 + 8 * k + 8 ≤ length s.now }
     ensures { result ≡ is_list s.now k }
 {
-    number(s, k, place::FACT_TYPE) == 5
+    number(s, k, place::FACT_TYPE) == LIST
 }
 
 // The fact that a node names, where there are so many facts; a Bool, 0 to 0, where there is no such fact.
@@ -125,12 +163,13 @@ pub fn no_fact() -> Named
     ensures { result ≡ no_fact }
 {
     Named {
-        item: span(0, 0, 0),
+        item: Item::NONE,
         list: false,
         most: 0,
     }
 }
 
+#[tactic(auto, unfolding(crate::specs::Facts::good_default))]
 pub fn good_default(flag: usize, min: i64, max: i64, default: i64) -> bool
     ensures { result ≡ good_default flag min max default }
 {
@@ -144,59 +183,69 @@ pub fn good_default(flag: usize, min: i64, max: i64, default: i64) -> bool
 }
 
 // The words past a fact's set; a list has no default.
-pub fn good_tail(s: &[i64], k: usize, r: Record) -> bool
+#[tactic(auto, unfolding(crate::specs::Facts::good_tail, words::specs::Record::record_at))]
+pub fn good_tail(s: &[i64], k: usize, r: Record<usize>) -> bool
     requires { (16 + 8 * k + 8 ≤ length s.now) × (r ≡ fact s.now k) }
     ensures { result ≡ good_tail s.now k }
 {
     if is_list(s, k) {
         (r.w3 == 0) & (r.w6 <= 2) & (r.w7 <= 100)
     } else {
-        unused(6, r)
+        r.unused(6)
     }
 }
 
-pub fn good_entity(r: Record) -> bool
+#[tactic(auto, unfolding(crate::specs::Entities::good_entity))]
+pub fn good_entity(r: Record<usize>) -> bool
     ensures { result ≡ good_entity r }
 {
-    (1 <= r.w0) & (r.w0 <= 16) & (r.w1 < r.w0) & unused(2, r)
+    (1 <= r.w0) & (r.w0 <= 16) & (r.w1 < r.w0) & r.unused(2)
 }
 
 // How many states an entity has.
-pub fn states_of(s: &[i64], h: Header, n: Entity) -> usize
-    requires { Sized s.now h × (n.0 < h.entities) }
-    ensures { result ≡ states s.now h n.0 }
+#[tactic(auto, unfolding(words::specs::Record::record_at))]
+pub fn states_of(s: &Sheet, n: Entity) -> usize
+    requires { n.0 < s.now.header.entities }
+    ensures { result ≡ states s.now.words.now s.now.header n.0 }
 {
-    number(s, h.first_entity() + n.0, place::ENTITY_STATES)
+    number(s.words, s.header.first_entity() + n.0, place::ENTITY_STATES)
 }
 
 // A rule's stratum.
-pub fn stratum_of(s: &[i64], h: Header, k: Rule) -> usize
-    requires { Sized s.now h × (k.0 < h.rules) }
-    ensures { result ≡ stratum s.now h k.0 }
+#[tactic(auto, unfolding(words::specs::Record::record_at))]
+pub fn stratum_of(s: &Sheet, k: Rule) -> usize
+    requires { k.0 < s.now.header.rules }
+    ensures { result ≡ stratum s.now.words.now s.now.header k.0 }
 {
-    number(s, h.first_rule() + k.0, place::RULE_STRATUM)
+    number(s.words, s.header.first_rule() + k.0, place::RULE_STRATUM)
 }
 
 // How many outcomes an operation has.
-pub fn outcomes_of(s: &[i64], h: Header, o: Operation) -> usize
-    requires { Sized s.now h × (o.0 < h.operations) }
-    ensures { result ≡ outcomes s.now h o.0 }
+#[tactic(auto, unfolding(words::specs::Record::record_at))]
+pub fn outcomes_of(s: &Sheet, o: Operation) -> usize
+    requires { o.0 < s.now.header.operations }
+    ensures { result ≡ outcomes s.now.words.now s.now.header o.0 }
 {
-    number(s, h.first_operation() + o.0, place::OPERATION_OUTCOMES)
+    number(
+        s.words,
+        s.header.first_operation() + o.0,
+        place::OPERATION_OUTCOMES,
+    )
 }
 
-pub fn good_change(s: &[i64], h: Header, r: Record) -> bool
-    requires { Sized s.now h }
-    ensures { result ≡ good_change s.now h r }
+#[tactic(auto, unfolding(crate::specs::Entities::good_change))]
+pub fn good_change(s: &Sheet, r: Record<usize>) -> bool
+    ensures { result ≡ good_change s.now.words.now s.now.header r }
 {
-    if r.w0 < h.entities {
-        let n = states_of(s, h, Entity(r.w0));
+    if r.w0 < s.header.entities {
+        let n = states_of(s, Entity(r.w0));
         (r.w1 < n) & (r.w2 < n)
     } else {
         false
     }
 }
 
+#[tactic(auto, unfolding(crate::specs::Operations::good_mask))]
 pub fn good_mask(h: Header, mask: usize) -> bool
     requires { h.personas ≤ 24 }
     ensures { result ≡ good_mask h mask }
@@ -205,6 +254,7 @@ pub fn good_mask(h: Header, mask: usize) -> bool
     (1 <= mask) & (mask < top)
 }
 
+#[tactic(auto, unfolding(crate::specs::Operations::good_outcome))]
 pub fn good_outcome(first: bool, last: bool, before: usize, outcomes: usize, out: usize) -> bool
     requires { before < 8 }
     ensures { result ≡ good_outcome first last before outcomes out }
@@ -221,22 +271,24 @@ pub fn good_outcome(first: bool, last: bool, before: usize, outcomes: usize, out
     }
 }
 
-pub fn good_operation_step(s: &[i64], h: Header, r: Record) -> bool
-    requires { Sized s.now h × ((k : ℕ) → k < h.operations → good_operation s.now h k ≡ true) }
-    ensures { result ≡ good_operation_step s.now h r }
+#[tactic(auto, using(crate::proofs::Parts::few_outcomes), unfolding(crate::specs::Flows::good_operation_step))]
+pub fn good_operation_step(s: &Sheet, r: Record<usize>) -> bool
+    requires { (k : ℕ) → k < s.now.header.operations → good_operation s.now.words.now s.now.header k ≡ true }
+    ensures { result ≡ good_operation_step s.now.words.now s.now.header r }
 {
-    if r.w1 < h.operations {
-        let outcomes = outcomes_of(s, h, Operation(r.w1));
-        (r.w2 < h.personas) & (r.w4 == outcomes + 1)
+    if r.w1 < s.header.operations {
+        let outcomes = outcomes_of(s, Operation(r.w1));
+        (r.w2 < s.header.personas) & (r.w4 == outcomes + 1)
     } else {
         false
     }
 }
 
-pub fn good_route_of(owner: usize, end: usize, r: Record) -> bool
+#[tactic(auto, unfolding(crate::specs::Flows::good_route_of))]
+pub fn good_route_of(owner: usize, end: usize, r: Record<usize>) -> bool
     ensures { result ≡ good_route_of owner end r }
 {
-    let tail = unused(2, r);
+    let tail = r.unused(2);
     if r.w0 == 0 {
         (owner < r.w1) & (r.w1 < end) & tail
     } else {

@@ -1,5 +1,7 @@
 -- Every report's answer fits a signed word.
 -- Assumes nothing.
+use Rattle.answer.specs.Answers.{tallied}
+use Rattle.std.specs.Prelude.{Ok, Err}
 use mathlib.Core.Path.{◌≡◌, refl}
 use mathlib.Core.Bool.{Bool, true, false}
 use mathlib.Core.List.{List}
@@ -9,8 +11,6 @@ use lib.Dec.{lit<}
 use native.Mathlib.Omega.{arith}
 use borrow.Author.Tests.{ltb-true}
 use Rattle.signed.specs.Words.{num}
-use Rattle.answer.specs.declared.Count.TheVariants.{Is, Refused as NoCount}
-use Rattle.answer.specs.declared.Counted.TheVariants.{Is as IsCounted, Refused as NotCounted}
 use Rattle.answer.specs.Inner.{SmallCount, SmallCounted}
 use Rattle.layout.specs.declared.Header.{Header}
 use Rattle.layout.specs.Tables.{flow}
@@ -40,8 +40,8 @@ small : (s : List ℤ) (numbers : Header → Bool) (answer : Header → ℕ) →
     → SmallCount (reported s numbers answer)
 unfolding report_rungs
 small s numbers answer k =
-    call_small SmallCount NoCount (λ h. Is (answer h)) (λ r p. p) s (report_rungs numbers) (λ h e. rungs_small _ _ _ _ tt (λ _. tt))
-    (λ h e. let a = asked s numbers refl e in k h a.sheet a.exist)
+    call_small SmallCount Err (λ h. Ok (answer h)) (λ r p. p) s (report_rungs numbers) (λ h e. rungs_small _ _ _ _ tt (λ _. tt))
+    (λ h e. let a = asked s numbers refl e in (k h a.sheet a.exist, lit< tt))
 
 -- of one number
 small_on : (answer : List ℤ → Header → ℕ → ℕ) (size : Header → ℕ) (s : List ℤ) (x : ℤ)
@@ -64,7 +64,7 @@ states_small s e = small_on states (λ h. h.entities) s e (λ h a n l. omega (ar
 pub reachable_small : (s : List ℤ) (e : ℤ) → SmallCounted (reachable_answer s e)
 unfolding report_rungs
 reachable_small s e =
-    call_small SmallCounted NotCounted (λ h. IsCounted (reachable s h (num e)) (scans s h (num e))) (λ r p. p) s
+    call_small SmallCounted Err (λ h. tallied (reachable s h (num e)) (scans s h (num e))) (λ r p. p) s
     (report_rungs (λ h. exists e h.entities)) (λ h e. rungs_small _ _ _ _ tt (λ _. tt))
     (λ h p. (omega (arith, mask_small s h (num e)), omega (arith, scans_few s h (num e))))
 
@@ -76,7 +76,7 @@ can_cause_small s p e a b = small s _ _ (λ h x y. bit_small (can_cause s h (num
 
 pub rules_small : (s : List ℤ) → SmallCount (rules_answer s)
 rules_small s =
-    opened_small SmallCount NoCount (λ h. Is h.rules) (λ r p. p) s
+    opened_small SmallCount Err (λ h. Ok h.rules) (λ r p. p) s
     (λ h e. omega (arith, (opened_at s refl e).sheet.sized.limits.rules))
 
 pub stratum_small : (s : List ℤ) (r : ℤ) → SmallCount (stratum_answer s r)

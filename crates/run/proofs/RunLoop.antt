@@ -1,5 +1,6 @@
 -- The loop of `run`: the rest of the same run is still to come, until it is finished.
 -- Assumes nothing.
+use Rattle.answer.specs.Answers.{tallied}
 use mathlib.Core.Path.{◌≡◌, refl, sym, ap, subst, ◌∙◌}
 use mathlib.Core.Bool.{true, false, not}
 use mathlib.Core.List.{List, ◌++◌}
@@ -10,13 +11,12 @@ use lib.Seq.{take-suc-set, length-take-le}
 use native.Mathlib.Numerals.{add-one}
 use native.Mathlib.Omega.{arith}
 use borrow.Author.Tests.{not-true, not-false}
-use Rattle.answer.specs.declared.Counted.TheVariants.{Is as Walked}
 use Rattle.layout.specs.declared.Header.{Header}
 use Rattle.layout.specs.Tables.{flow}
 use Rattle.node.specs.FactValues.{FactValue}
 use Rattle.records.specs.Flows.{steps_end, flow_of}
 use Rattle.records.proofs.FlowLaws.{flow_ok, flow_of_lem}
-use Rattle.operation.specs.declared.Wanted.{Wanted}
+use Rattle.std.specs.Prelude.{Option}
 use Rattle.operation.specs.Outcomes.{wanted_of}
 use Rattle.operation.specs.Inner.{StatesIn}
 use Rattle.walks.specs.declared.Walker.{Walker}
@@ -69,7 +69,7 @@ module _ {s : List ℤ} {h : Header} {facts : List FactValue} {verdicts states�
 
   module _ {words states : List ℤ} {path : List ℕ} {w : Walker}
       (g₀ : Ongoing s h facts verdicts states₀ (flow_of s h w₀.step) words b states path w) where
-    abbrev wants : ℕ → Wanted
+    abbrev wants : ℕ → Option ℕ
     wants = wanted_at s h f words
 
     -- the route of the step that the loop has come to, and the states after it
@@ -90,7 +90,7 @@ module _ {s : List ℤ} {h : Header} {facts : List FactValue} {verdicts states�
 
     -- it is finished: the answer, the buffer once it is cleared past the path, and the states
     pub run_done : {path' : List ℕ} → not w.finished ≡ false → path' ≡ take w.length path ++ replicate (length path - w.length) 0
-        → (Walked w.step w.length ≡ ran_walk s h facts verdicts states₀ f words)
+        → (tallied w.step w.length ≡ ran_walk s h facts verdicts states₀ f words)
         × ((path' ≡ ran_path s h facts verdicts states₀ f words b) × (states ≡ ran_states s h facts verdicts states₀ f words))
     unfolding ran_walk ran_path ran_states laid
     run_done y c =
@@ -99,7 +99,7 @@ module _ {s : List ℤ} {h : Header} {facts : List FactValue} {verdicts states�
         sym (run_stops s h facts verdicts wants t (steps_of s h f - w.length) (not-false w.finished y)) ∙ g.rest in
         let l : laid (take w.length path) b ≡ take w.length path ++ replicate (length path - w.length) 0 =
         rw (length-take-le w.length path run_short, g.size) in (
-          ap (λ (x : Running). Walked x.walker.step x.walker.length) e,
+          ap (λ (x : Running). tallied x.walker.step x.walker.length) e,
           (c ∙ sym l ∙ ap (λ (x : Running). laid x.path b) e, ap (λ (x : Running). x.states) e),
         )
 
@@ -151,7 +151,7 @@ module _ {s : List ℤ} {h : Header} {facts : List FactValue} {verdicts states�
           }
 
       -- the code's word x, route r, states and walker
-      module _ {x : Wanted} {r : ℕ} (d : x ≡ wanted_of (get_or words (w.step - w₀.step) (pos 0)))
+      module _ {x : Option ℕ} {r : ℕ} (d : x ≡ wanted_of (get_or words (w.step - w₀.step) (pos 0)))
           (k : r ≡ route_taken s h facts verdicts states w.step x) where
         is_wanted : x ≡ wants w.step
         unfolding wanted_at

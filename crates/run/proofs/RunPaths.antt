@@ -9,10 +9,10 @@ use lib.IntN.{ℤ}
 use lib.ListN.{length, replicate, length-replicate}
 use native.Mathlib.Omega.{arith}
 use Rattle.tables.proofs.Bools.{bool_cases}
-use Rattle.answer.specs.Inner.{SmallCounted}
+use Rattle.answer.specs.Inner.{Small}
 use Rattle.layout.specs.declared.Header.{Header}
 use Rattle.node.specs.FactValues.{FactValue}
-use Rattle.operation.specs.declared.Wanted.{Wanted}
+use Rattle.std.specs.Prelude.{Option}
 use Rattle.operation.specs.Inner.{StatesIn}
 use Rattle.walks.specs.Paths.{steps_of}
 use Rattle.walks.specs.Walkers.{taken}
@@ -27,7 +27,7 @@ use Rattle.run.proofs.StepLaws.{route_of, states_then_in}
 
 -- ---- a run by its steps
 
-module _ (s : List ℤ) (h : Header) (facts : List FactValue) (verdicts : List ℤ) (wants : ℕ → Wanted) (t : Running) where
+module _ (s : List ℤ) (h : Header) (facts : List FactValue) (verdicts : List ℤ) (wants : ℕ → Option ℕ) (t : Running) where
   pub run_stops : (n : ℕ) → t.walker.finished ≡ true → run_on s h facts verdicts wants n t ≡ t
   unfolding run_on
   run_stops zero e = refl
@@ -63,7 +63,7 @@ module _ {s : List ℤ} {h : Header} {facts : List FactValue} {verdicts states :
     pub held_step : Steppable s h facts verdicts t.walker.step
     held_step = record { accepted = u.lent.sheet; known = u.known; judged = u.judged; exists = going_step (trail_going u.lent k.trail) e }
 
-    pub held_stepped : (wants : ℕ → Wanted) → Held s h f (stepped s h facts verdicts wants t)
+    pub held_stepped : (wants : ℕ → Option ℕ) → Held s h f (stepped s h facts verdicts wants t)
     unfolding stepped
     held_stepped wants =
         record {
@@ -73,7 +73,7 @@ module _ {s : List ℤ} {h : Header} {facts : List FactValue} {verdicts states :
           valid = states_then_in held_step k.valid (wants t.walker.step);
         }
 
-  module _ (wants : ℕ → Wanted) where
+  module _ (wants : ℕ → Option ℕ) where
     -- a run that has steps enough is finished
     ends : (n : ℕ) (t : Running) → Held s h f t → steps_of s h f ≤ n + t.walker.length
         → Held s h f (run_on s h facts verdicts wants n t) × ((run_on s h facts verdicts wants n t).walker.finished ≡ true)
@@ -99,7 +99,7 @@ module _ {s : List ℤ} {h : Header} {facts : List FactValue} {verdicts states :
         record { finished = e; listed = trail_listed u.lent t e; answers = trail_arrives t e; within = trail_short u.lent t e }
 
     -- its answer fits a signed word
-    pub run_small : SmallCounted (ran_walk s h facts verdicts states f words)
+    pub run_small : Small (λ x. (x.value, x.count)) (ran_walk s h facts verdicts states f words)
     run_small =
         let d = done (wanted_at s h f words) in
         let z =

@@ -16,7 +16,7 @@ use Rattle.node.specs.FactValues.{FactValue}
 use Rattle.records.specs.Accepted.{Accepted}
 use Rattle.records.proofs.FlowLaws.{flow_ok}
 use Rattle.records.proofs.OperationLaws.{effect_ok}
-use Rattle.operation.specs.declared.Wanted.{Wanted}
+use Rattle.std.specs.Prelude.{Option}
 use Rattle.operation.specs.Outcomes.{of_operation}
 use Rattle.operation.specs.Inner.{Agree, Untouched}
 use Rattle.attempt.proofs.AttemptUntouched.{attempted_agree, attempted_states_agree, attempted_untouched}
@@ -34,7 +34,7 @@ use Rattle.run.proofs.Wants.{operation_there}
 
 -- ---- one step
 
-module _ (s : List ℤ) (h : Header) (facts : List FactValue) (verdicts : List ℤ) (i : ℕ) (d : Wanted) where
+module _ (s : List ℤ) (h : Header) (facts : List FactValue) (verdicts : List ℤ) (i : ℕ) (d : Option ℕ) where
   module _ (a b : List ℤ) (k : performs s h i ≡ true → Agree s h (operation_at s h i) a b) where
     route_agree : route_taken s h facts verdicts a i d ≡ route_taken s h facts verdicts b i d
     route_agree =
@@ -94,7 +94,7 @@ record Alike (h : Header) (a b : List ℤ) (t u : Running) : Type 0 where
   each : (n : ℕ) → n < h.entities → get_or a n (pos 0) ≡ get_or b n (pos 0) → get_or t.states n (pos 0) ≡ get_or u.states n (pos 0)
 
 module _ {s : List ℤ} {h : Header} (w : Accepted s h) {f : ℕ} (l : f < h.flows) (facts : List FactValue) (verdicts : List ℤ) where
-  module _ (wants : ℕ → Wanted) where
+  module _ (wants : ℕ → Option ℕ) where
     trail_stepped : (t : Running) → Trail s h f t.path t.walker → t.walker.finished ≡ false
         → Trail s h f (stepped s h facts verdicts wants t).path (stepped s h facts verdicts wants t).walker
     unfolding stepped

@@ -1,5 +1,6 @@
 -- One step of a run: its route is one of the step's, and the states afterwards are among their entities' states again.
 -- Assumes nothing.
+use Rattle.std.specs.Prelude.{Ok, Err}
 use mathlib.Core.Path.{◌≡◌, refl, sym, ◌∙◌}
 use mathlib.Core.Bool.{Bool, true, false, ◌&&◌}
 use mathlib.Core.List.{List}
@@ -10,8 +11,7 @@ use native.Mathlib.Omega.{arith}
 use borrow.Author.Tests.{eq-eqb, ne_eqb, eqb-true}
 use Rattle.tables.proofs.Bools.{bool_cases, true_false}
 use Rattle.answer.specs.declared.Refusal.{Refusal}
-use Rattle.answer.specs.declared.Count.{Count}
-use Rattle.answer.specs.declared.Count.TheVariants.{Is, Refused}
+use Rattle.answer.specs.Answers.{Count}
 use Rattle.layout.specs.declared.Header.{Header}
 use Rattle.layout.specs.Tables.{operation, step}
 use Rattle.node.specs.FactValues.{FactValue}
@@ -22,7 +22,7 @@ use Rattle.records.proofs.FlowLaws.{StepKind, performs as is-operation, branches
 use Rattle.records.proofs.OperationLaws.{operation_ok}
 use Rattle.predicate.specs.Values.{truth}
 use Rattle.predicate.specs.Inner.{Evaluable}
-use Rattle.operation.specs.declared.Wanted.{Wanted}
+use Rattle.std.specs.Prelude.{Option}
 use Rattle.operation.specs.Mask.{allowed}
 use Rattle.operation.specs.Inner.{StatesIn}
 use Rattle.operation.specs.Ready.{Ready}
@@ -36,7 +36,7 @@ use Rattle.run.specs.Inner.{Steppable}
 
 -- ---- by the step's kind
 
-module _ (s : List ℤ) (h : Header) (facts : List FactValue) (verdicts states : List ℤ) (i : ℕ) (d : Wanted) where
+module _ (s : List ℤ) (h : Header) (facts : List FactValue) (verdicts states : List ℤ) (i : ℕ) (d : Option ℕ) where
   pub operation_route : performs s h i ≡ true
       → route_taken s h facts verdicts states i d ≡ answer_route s h i (attempted s h facts verdicts states (persona_at s h i) (operation_at s h i) d)
   unfolding route_taken
@@ -56,7 +56,7 @@ module _ (s : List ℤ) (h : Header) (facts : List FactValue) (verdicts states :
   branch_states e = rw (e, states_then)
 
   -- a step that is refused changes nothing, and takes the last of its routes
-  pub refused_step : (r : Refusal) → performs s h i ≡ true → attempted s h facts verdicts states (persona_at s h i) (operation_at s h i) d ≡ Refused r
+  pub refused_step : (r : Refusal) → performs s h i ≡ true → attempted s h facts verdicts states (persona_at s h i) (operation_at s h i) d ≡ Err r
       → (states_then s h facts verdicts states i d ≡ states) × (route_taken s h facts verdicts states i d ≡ first_route_of s h i + routes_of s h i - 1)
   unfolding answer_route
   refused_step r e q =
@@ -94,14 +94,14 @@ module _ {s : List ℤ} {h : Header} (a : Accepted s h) (i : ℕ) (l : i < h.ste
       go (is-operation z o p c) = c
       go (is-branch z o t l c) = let k = eqb-true (step s h i).w0 0 e in absurd (omega arith)
 
-  module _ (facts : List FactValue) (verdicts states : List ℤ) (d : Wanted) where
+  module _ (facts : List FactValue) (verdicts states : List ℤ) (d : Option ℕ) where
     pub answer_of_lem : performs s h i ≡ true → (r : Count) → attempted s h facts verdicts states (persona_at s h i) (operation_at s h i) d ≡ r
         → RouteOf s h i (answer_route s h i r)
     unfolding answer_route
-    answer_of_lem e (Is j) q =
+    answer_of_lem e (Ok j) q =
         let k = outcome_below s h facts verdicts states (persona_at s h i) (operation_at s h i) d j q in
         record { low = omega arith; high = omega (arith, operation_routes e) }
-    answer_of_lem e (Refused r) q = let k = operation_routes e in record { low = omega arith; high = omega arith }
+    answer_of_lem e (Err r) q = let k = operation_routes e in record { low = omega arith; high = omega arith }
 
     -- the route taken is one of the step's, whatever the facts and states are
     pub route_of : RouteOf s h i (route_taken s h facts verdicts states i d)
@@ -140,14 +140,14 @@ module _ {s : List ℤ} {h : Header} {facts : List FactValue} {verdicts : List �
         go (is-branch z o t l c) = let k = eqb-true (step s h i).w0 0 e in absurd (omega arith)
 
     -- the states afterwards are among their entities' states
-    pub states_then_in : (d : Wanted) → StatesIn s h (states_then s h facts verdicts states i d)
+    pub states_then_in : (d : Option ℕ) → StatesIn s h (states_then s h facts verdicts states i d)
     states_then_in d =
         ⊎_elim (λ e. rw (operation_states s h facts verdicts states i d e) (attempted_in (attemptable e) d))
         (λ e. rw (branch_states s h facts verdicts states i d e) v) (bool_cases (performs s h i))
 
 -- ---- what the code finds
 
-module _ (s : List ℤ) (h : Header) (facts : List FactValue) (verdicts states : List ℤ) (i : ℕ) (d : Wanted) where
+module _ (s : List ℤ) (h : Header) (facts : List FactValue) (verdicts states : List ℤ) (i : ℕ) (d : Option ℕ) where
   -- an operation step
   pub took_operation : (r : ℕ) (end : List ℤ) → performs s h i ≡ true
       → r ≡ answer_route s h i (attempted s h facts verdicts states (persona_at s h i) (operation_at s h i) d)
@@ -186,7 +186,7 @@ module _ {s : List ℤ} {h : Header} {facts : List FactValue} {verdicts states :
   pub triable : Ready s h states o × (p < h.personas)
   triable = (asked.ready, asked.persona)
 
-  module _ (d : Wanted) {t : Bool} {x : Count} {end : List ℤ} (is-truth : t ≡ (allowed s h o p && truth s h facts verdicts (precondition s h o)))
+  module _ (d : Option ℕ) {t : Bool} {x : Count} {end : List ℤ} (is-truth : t ≡ (allowed s h o p && truth s h facts verdicts (precondition s h o)))
       (is-if : x ≡ attempted_if s h t states p o d) (is-left : end ≡ attempted_states_if s h t states p o d) where
     tried : (x ≡ attempted s h facts verdicts states p o d) × (end ≡ attempted_states s h facts verdicts states p o d)
     tried = attempt_admits s h facts verdicts states p o d is-if is-left is-truth
@@ -197,19 +197,19 @@ module _ {s : List ℤ} {h : Header} {facts : List FactValue} {verdicts states :
     ended : end ≡ attempted_states s h facts verdicts states (persona_at s h i) (operation_at s h i) d
     ended = rw (of-step, by-persona) at tried.1
 
-    pub outcome_fits : (j : ℕ) → x ≡ Is j → first + j < h.routes
+    pub outcome_fits : (j : ℕ) → x ≡ Ok j → first + j < h.routes
     unfolding answer_route
     outcome_fits j z =
-        let k = answer_of_lem w.accepted i w.exists facts verdicts states d e (Is j) (answered ∙ z) in
+        let k = answer_of_lem w.accepted i w.exists facts verdicts states d e (Ok j) (answered ∙ z) in
         rw q (omega (arith, k.high, routes_end_lem w.accepted i w.exists))
 
-    pub by_outcome : (j : ℕ) → x ≡ Is j
+    pub by_outcome : (j : ℕ) → x ≡ Ok j
         → (first + j ≡ answer_route s h i (attempted s h facts verdicts states (persona_at s h i) (operation_at s h i) d))
         × (end ≡ attempted_states s h facts verdicts states (persona_at s h i) (operation_at s h i) d)
     unfolding answer_route
     by_outcome j z = (rw (answered ∙ z, q), ended)
 
-    pub by_failure : (r : Refusal) (count : ℕ) → x ≡ Refused r → count ≡ routes_of s h i
+    pub by_failure : (r : Refusal) (count : ℕ) → x ≡ Err r → count ≡ routes_of s h i
         → (first + count - 1 ≡ answer_route s h i (attempted s h facts verdicts states (persona_at s h i) (operation_at s h i) d))
         × (end ≡ attempted_states s h facts verdicts states (persona_at s h i) (operation_at s h i) d)
     unfolding answer_route

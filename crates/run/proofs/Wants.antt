@@ -15,7 +15,7 @@ use Rattle.layout.specs.Tables.{step}
 use Rattle.records.specs.Accepted.{Accepted}
 use Rattle.records.specs.Operations.{outcomes}
 use Rattle.records.proofs.FlowLaws.{StepKind, performs as is-operation, branches as is-branch, step_is, flow_ok}
-use Rattle.operation.specs.declared.Wanted.{Wanted}
+use Rattle.std.specs.Prelude.{Option}
 use Rattle.operation.specs.Outcomes.{wanted_of, good_wanted}
 use Rattle.walks.specs.Paths.{first_step_of, steps_of}
 use Rattle.run.specs.Runs.{operation_at, wanted_at, outcomes_at, good_word, good_words}
@@ -54,7 +54,7 @@ pub no_words : (s : List ℤ) (h : Header) (first : ℕ) (words : List ℤ) → 
 no_words s h first words = record { here = omega arith; each = λ j l. absurd (omega arith) }
 
 -- b is what the code finds of the k-th: it may want n outcomes, and wants w
-module _ (s : List ℤ) (h : Header) (first : ℕ) (words : List ℤ) (k : ℕ) {n : ℕ} {w : Wanted} {b : Bool} (is-many : n ≡ outcomes_at s h (first + k))
+module _ (s : List ℤ) (h : Header) (first : ℕ) (words : List ℤ) (k : ℕ) {n : ℕ} {w : Option ℕ} {b : Bool} (is-many : n ≡ outcomes_at s h (first + k))
     (is_wanted : w ≡ wanted_of (get_or words k (pos 0))) (is-good : b ≡ good_wanted n w) where
   found : b ≡ word_good s h first words k
   unfolding word_good
@@ -77,7 +77,7 @@ module _ (s : List ℤ) (h : Header) (f : ℕ) (words : List ℤ) {first : ℕ} 
   unfolding good_word wanted_at word_good
   word_is k = let z : first_step_of s h f + k - first_step_of s h f ≡ k = omega arith in rw (z, is-first)
 
-  pub bad_word : (k : ℕ) {n : ℕ} {w : Wanted} {b : Bool} → length words ≡ steps_of s h f → k < length words → n ≡ outcomes_at s h (first + k)
+  pub bad_word : (k : ℕ) {n : ℕ} {w : Option ℕ} {b : Bool} → length words ≡ steps_of s h f → k < length words → n ≡ outcomes_at s h (first + k)
       → w ≡ wanted_of (get_or words k (pos 0)) → b ≡ good_wanted n w → not b ≡ true → false ≡ good_words s h f words
   unfolding good_words
   bad_word k {n} {w} {b} e l p q g t =

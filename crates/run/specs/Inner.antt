@@ -1,7 +1,7 @@
 -- What the inner functions ask and answer, and what proofs speak of. The definitions of the other files do not rest on these.
 -- Assumes nothing.
 use Rattle.std.specs.Prelude.{◌≡◌, Bool, true, false, List, ℕ, ◌+◌, ◌≤◌, ◌<◌, ℤ, length, get_or}
-use Rattle.answer.specs.declared.Counted.{Counted}
+use Rattle.answer.specs.Answers.{Counted}
 use Rattle.layout.specs.declared.Header.{Header}
 use Rattle.records.specs.Accepted.{Accepted}
 use Rattle.node.specs.FactValues.{FactValue}

@@ -1,16 +1,13 @@
 -- 01, "Flow" under "Evaluation", and 02, CR 1 and CR 7: a run of a flow. "Facts and verdicts are fixed at its start."
 -- Assumes nothing.
-use Rattle.std.specs.Prelude.{Bool, true, false, List, [], ◌∷◌, ◌++◌, ℕ, zero, suc, ◌+◌, ◌-◌, ℤ, pos, get_or, eqb}
+use Rattle.std.specs.Prelude.{Bool, true, false, List, [], ◌∷◌, ◌++◌, ℕ, zero, suc, ◌+◌, ◌-◌, ℤ, pos, get_or, eqb, Option, Ok, Err}
 use Rattle.tables.specs.Scan.{all_below}
-use Rattle.answer.specs.declared.Count.{Count}
-use Rattle.answer.specs.declared.Count.TheVariants.{Is, Refused}
-use Rattle.answer.specs.declared.Counted.{Counted}
+use Rattle.answer.specs.Answers.{Count, Counted}
 use Rattle.layout.specs.declared.Header.{Header}
 use Rattle.layout.specs.Tables.{step, kind_of, node_named, persona_named, operation_named}
 use Rattle.records.specs.Operations.{outcomes}
 use Rattle.node.specs.FactValues.{FactValue}
 use Rattle.predicate.specs.Values.{truth}
-use Rattle.operation.specs.declared.Wanted.{Wanted}
 use Rattle.operation.specs.Outcomes.{wanted_of, good_wanted}
 use Rattle.instances.specs.Named.{covers}
 use Rattle.attempt.specs.Attempts.{attempted, attempted_states}
@@ -36,7 +33,7 @@ abbrev pub node_at : List ℤ → Header → ℕ → ℕ
 node_at s h i = node_named (step s h i)
 
 -- "a flow run is lent one wanted word per step of the flow": what step i of flow f wants
-unfoldable pub wanted_at : List ℤ → Header → ℕ → List ℤ → ℕ → Wanted
+unfoldable pub wanted_at : List ℤ → Header → ℕ → List ℤ → ℕ → Option ℕ
 wanted_at s h f words i = wanted_of (get_or words (i - first_step_of s h f) (pos 0))
 
 -- how many outcomes step i may want: those of its operation; a branch has none, so "a branch step's word must be −1"
@@ -60,8 +57,8 @@ flow_covers s h lent f = all_below (λ k. step_covers s h lent (first_step_of s 
 -- "an operation step answered 9, 10 or 11 .. takes the failure route", which is its last; "otherwise the route of its outcome"; 02: "in a
 -- flow 16 takes the failure route"
 unfoldable pub answer_route : List ℤ → Header → ℕ → Count → ℕ
-answer_route s h i (Is j) = first_route_of s h i + j
-answer_route s h i (Refused r) = first_route_of s h i + routes_of s h i - 1
+answer_route s h i (Ok j) = first_route_of s h i + j
+answer_route s h i (Err r) = first_route_of s h i + routes_of s h i - 1
 
 -- a branch has two routes: true, then false
 unfoldable pub branch_route : List ℤ → Header → ℕ → Bool → ℕ
@@ -69,7 +66,7 @@ branch_route s h i true = first_route_of s h i
 branch_route s h i false = first_route_of s h i + 1
 
 -- the route that step i takes, where it wants w
-unfoldable pub route_taken : List ℤ → Header → List FactValue → List ℤ → List ℤ → ℕ → Wanted → ℕ
+unfoldable pub route_taken : List ℤ → Header → List FactValue → List ℤ → List ℤ → ℕ → Option ℕ → ℕ
 route_taken s h facts verdicts states i w =
     elim (performs s h i) [
       | true ↦ answer_route s h i (attempted s h facts verdicts states (persona_at s h i) (operation_at s h i) w)
@@ -77,7 +74,7 @@ route_taken s h facts verdicts states i w =
     ]
 
 -- the states after step i: those after its operation, which a refusal leaves as they were; a branch changes none
-unfoldable pub states_then : List ℤ → Header → List FactValue → List ℤ → List ℤ → ℕ → Wanted → List ℤ
+unfoldable pub states_then : List ℤ → Header → List FactValue → List ℤ → List ℤ → ℕ → Option ℕ → List ℤ
 states_then s h facts verdicts states i w =
     elim (performs s h i) [ true ↦ attempted_states s h facts verdicts states (persona_at s h i) (operation_at s h i) w | false ↦ states ]
 
@@ -94,7 +91,7 @@ unfoldable pub begun : List ℤ → Header → ℕ → List ℤ → Running
 begun s h f states = record { walker = started s h f; path = []; states = states }
 
 -- "one step of a flow hands on the next step, or the terminal"; "earlier steps' changes remain". `wants` says what each step wants
-unfoldable pub stepped : List ℤ → Header → List FactValue → List ℤ → (ℕ → Wanted) → Running → Running
+unfoldable pub stepped : List ℤ → Header → List FactValue → List ℤ → (ℕ → Option ℕ) → Running → Running
 stepped s h facts verdicts wants t =
     let i = t.walker.step in
     let route = route_taken s h facts verdicts t.states i (wants i) in
@@ -105,13 +102,13 @@ stepped s h facts verdicts wants t =
     }
 
 -- step by step until it is finished, n steps at most
-unfoldable pub run_on : List ℤ → Header → List FactValue → List ℤ → (ℕ → Wanted) → ℕ → Running → Running
+unfoldable pub run_on : List ℤ → Header → List FactValue → List ℤ → (ℕ → Option ℕ) → ℕ → Running → Running
 run_on s h facts verdicts wants zero t = t
 run_on s h facts verdicts wants (suc n) t =
     elim t.walker.finished [ true ↦ t | false ↦ run_on s h facts verdicts wants n (stepped s h facts verdicts wants t) ]
 
 -- "a run ends within as many steps as the flow has"
-unfoldable pub ran : List ℤ → Header → List FactValue → List ℤ → List ℤ → ℕ → (ℕ → Wanted) → Running
+unfoldable pub ran : List ℤ → Header → List FactValue → List ℤ → List ℤ → ℕ → (ℕ → Option ℕ) → Running
 ran s h facts verdicts states f wants = run_on s h facts verdicts wants (steps_of s h f) (begun s h f states)
 
 -- ---- what is answered and left, of the words that are lent

@@ -7,113 +7,78 @@ ghost use Rattle.std.specs.Prelude.{◌≤◌, length};
 pub mod buffers;
 pub mod lines;
 
-use signed::to_word;
-
-// What has been read of the number, or the comment, at hand.
+// What has been read of the comment, or of the number, at hand.
 #[derive(Clone, Copy)]
-pub struct Part {
-    pub value: usize,
-    pub digits: bool,
-    pub minus: bool,
-    pub comment: bool,
+enum Part {
+    Comment,
+    Number { minus: bool, digits: Option<u64> },
 }
 
-// The digit that a byte is, 10 where it is none.
-fn digit(b: u8) -> usize {
-    if b < 48 {
-        10
-    } else if 57 < b {
-        10
-    } else {
-        (b - 48) as usize
+fn digit(b: u8) -> Option<u8> {
+    match b {
+        b'0'..=b'9' => Some(b - b'0'),
+        _ => None,
     }
 }
 
 // A value with one more digit; a value that is long already stays.
-fn grown(value: usize, d: usize) -> usize {
+fn grown(value: u64, d: u8) -> u64 {
     if value < 1_000_000_000_000 {
-        if d < 10 {
-            return 10 * value + d;
-        }
-    }
-    value
-}
-
-fn fresh(minus: bool, comment: bool) -> Part {
-    Part {
-        value: 0,
-        digits: false,
-        minus,
-        comment,
-    }
-}
-
-fn step(p: Part, b: u8) -> Part {
-    if p.comment {
-        return fresh(false, b != 10);
-    }
-    let d = digit(b);
-    if d < 10 {
-        Part {
-            value: grown(p.value, d),
-            digits: true,
-            minus: p.minus,
-            comment: false,
-        }
+        10 * value + u64::from(d)
     } else {
-        fresh(b == 45, b == 35)
+        value
     }
 }
 
-// Whether a number ends where this byte stands.
-fn ends(p: Part, b: u8) -> bool {
-    let d = digit(b);
-    !p.comment & ((p.digits & (d == 10)) | (b == 60) | (b == 62))
-}
-
-fn decimal(value: usize, minus: bool) -> i64 {
-    if 1_000_000_000_000_000 < value {
-        return 0;
-    }
-    let w = to_word(value);
-    if minus { -w } else { w }
-}
-
-// The number that ends where this byte stands.
-fn word(p: Part, b: u8) -> i64 {
-    match b {
-        60 => -9_223_372_036_854_775_808,
-        62 => 9_223_372_036_854_775_807,
-        _ => decimal(p.value, p.minus),
-    }
-}
-
-// Puts the number that ends where this byte stands, if one does and there is room, after the k before it; answers how many there are then.
-fn put(tape: &mut [i64], k: usize, p: Part, b: u8) -> usize
-    requires { k ≤ length tape.old }
-    ensures { result ≤ length tape.old }
-{
-    if ends(p, b) {
-        if k < tape.len() {
-            tape[k] = word(p, b);
-            return k + 1;
+impl Part {
+    // What is at hand past a byte.
+    fn then(self, b: u8) -> Part {
+        match (self, digit(b)) {
+            (Part::Comment, _) if b != b'\n' => Part::Comment,
+            (Part::Number { minus, digits }, Some(d)) => Part::Number {
+                minus,
+                digits: Some(grown(digits.unwrap_or(0), d)),
+            },
+            _ if b == b'#' => Part::Comment,
+            _ => Part::Number {
+                minus: b == b'-',
+                digits: None,
+            },
         }
     }
-    k
+
+    // The number that ends where a byte stands, if one does.
+    fn ended(self, b: u8) -> Option<i64> {
+        let Part::Number { minus, digits } = self else {
+            return None;
+        };
+        match b {
+            b'0'..=b'9' => None,
+            b'<' => Some(i64::MIN),
+            b'>' => Some(i64::MAX),
+            _ if minus => digits.map(|value| 0i64.saturating_sub_unsigned(value)),
+            _ => digits.map(|value| 0i64.saturating_add_unsigned(value)),
+        }
+    }
 }
 
-// Puts the numbers of a text onto the tape, and answers how many there are.
+// Puts the numbers of a text onto the tape, as many as it has room for, and answers how many there are.
 pub fn read(text: &[u8], tape: &mut [i64]) -> usize
     ensures { result ≤ length tape.new }
 {
-    let mut p = fresh(false, false);
+    let mut part = Part::Number {
+        minus: false,
+        digits: None,
+    };
     let mut k = 0;
-    let mut i = 0;
-    while i < text.len() {
-        let b = text[i];
-        k = put(tape, k, p, b);
-        p = step(p, b);
-        i += 1;
+    for b in text {
+        if let Some(w) = part.ended(*b) {
+            if k < tape.len() {
+                tape[k] = w;
+                k += 1;
+            }
+        }
+        part = part.then(*b);
     }
     k
 }

@@ -13,10 +13,9 @@ use native.Mathlib.Omega.{arith}
 use native.Mathlib.Numerals.{add-one}
 use native.Mathlib.Decide.{ℕ_discrete}
 use borrow.Author.Tests.{eq-eqb, ne_eqb}
-use Rattle.tables.specs.Scan.{any_below, sum_below, first_fail}
+use Rattle.tables.specs.Scan.{any_below, sum_below}
 use Rattle.tables.proofs.Bools.{tests, bool_cases, true_false, and_true}
 use Rattle.tables.proofs.Scans.{any_same, extend_one, sum_zero, sum_more}
-use Rattle.tables.proofs.Scanned.{fail_at, fail_none}
 use Rattle.words.specs.declared.Record.{Record}
 use Rattle.words.specs.Record.{number, record_at, unused}
 use Rattle.layout.specs.declared.Header.{Header}
@@ -26,19 +25,18 @@ use Rattle.records.specs.Entities.{good_change, declared}
 use Rattle.records.specs.Operations.{good_effect, good_effect_of, good_outcome, operation_of, outcome, effects_end, same_source}
 use Rattle.sheet_states.specs.Flags.{SmallChange, place_of}
 use Rattle.sheet_states.proofs.Flags.{small_change}
-use Rattle.sheet_effects.specs.Stamps.{source_of, stamp_of, last_stamp, BeforeEffects, Group, Seen, Stretch}
+use Rattle.sheet_effects.specs.Stamps.{source_of, stamp_of, last_stamp, BeforeEffects, Group, Seen}
 use Rattle.sheet_effects.proofs.Stamps.{outcome_test, effect_outcome, out_small, ordered, ordered_next, any_last, same_source_lem, belongs, ends_in, starts, covers}
 
 -- at the loop's head: e good effects so far, and the outcome of the effect before
-pub record Turn (s : List ℤ) (h : Header) (m first end e before : ℕ) (t : List ℕ) : Type 0 where
+pub record Turn (s : List ℤ) (h : Header) (m first e before : ℕ) (t : List ℕ) : Type 0 where
   pub low : first ≤ e
-  pub high : e ≤ end
   pub small : before < 8
   pub last : (e ≡ first → ⊥) → before ≡ outcome s h (e - 1)
   pub seen : Seen s h m e t
 
-pub begin : (s : List ℤ) (h : Header) (m first end : ℕ) (t : List ℕ) → first ≤ end → Seen s h m first t → Turn s h m first end first 0 t
-begin s h m first end t l z = record { low = omega arith; high = l; small = omega arith; last = λ n. absurd (n refl); seen = z }
+pub begin : {s : List ℤ} {h : Header} {m first : ℕ} {t : List ℕ} → Seen s h m first t → Turn s h m first first 0 t
+begin z = record { low = omega arith; small = omega arith; last = λ n. absurd (n refl); seen = z }
 
 effect_change : (s : List ℤ) (h : Header) (e : ℕ) → good_effect s h e ≡ true → good_change s h (effect s h e) ≡ true
 unfolding good_effect good_effect_of
@@ -65,7 +63,7 @@ unfolding good_outcome
 first_any last b b' outcomes out = refl
 
 module _ (s : List ℤ) (h : Header) (d : List Bool) (o first end outcomes e before : ℕ) {room : ℕ} (t : List ℕ)
-    (z : BeforeEffects s h d) (g : Group s h o first end outcomes) (w : Turn s h room first end e before t) (l : e < end) where
+    (z : BeforeEffects s h d) (g : Group s h o first end outcomes) (w : Turn s h room first e before t) (l : e < end) where
   pub inside : e < h.effects
   inside = omega (arith, ends_in s h z.groups z.operations o g.here, g.ends)
 
@@ -82,17 +80,20 @@ module _ (s : List ℤ) (h : Header) (d : List Bool) (o first end outcomes e bef
       go (yes x) = rw (eq-eqb e first x) (first_any (eqb (e + 1) end) before (outcome s h (e - 1)) outcomes (outcome s h e))
       go (no n) = rw (w.last n)
 
-  module _ {r : Record} {a b c : Bool} {base : ℕ} (eb : base ≡ first_effect h) (er : r ≡ record_at s (base + e)) (ea : a ≡ good_change s h r)
+  module _ {r : Record ℕ} {a b c : Bool} {base : ℕ} (eb : base ≡ first_effect h) (er : r ≡ record_at s (base + e)) (ea : a ≡ good_change s h r)
       (eu : b ≡ unused 4 r)
       (ec : c ≡ good_outcome (eqb e first) (eqb (e + 1) end) before outcomes r.w3) where
     is : r ≡ effect s h e
     is = er ∙ rw eb
 
     -- a good effect passes the first tests
-    pub stop_first : (a && b && c) ≡ false → good_effect s h e ≡ true → ⊥
-    stop_first p q =
-        true_false (and_true (a && b) c (and_true a b (rw (ea, is) (effect_change s h e q)) (rw (eu, is) (effect_unused s h e q)))
-        (rw (ec, is) (test_is ∙ effect_outcome s h e q))) p
+    pub stop_first : (a && b && c) ≡ false → good_effect s h e ≡ false
+    stop_first p = ⊎_elim (λ q. absurd (true_false (passes q) p)) (λ q. q) (bool_cases (good_effect s h e))
+      where
+        passes : good_effect s h e ≡ true → (a && b && c) ≡ true
+        passes q =
+            and_true (a && b) c (and_true a b (rw (ea, is) (effect_change s h e q)) (rw (eu, is) (effect_unused s h e q)))
+            (rw (ec, is) (test_is ∙ effect_outcome s h e q))
 
     module _ (p : (a && b && c) ≡ true) where
       changed : good_change s h (effect s h e) ≡ true
@@ -134,14 +135,13 @@ module _ (s : List ℤ) (h : Header) (d : List Bool) (o first end outcomes e bef
             rw (effect_rest s h e changed (rw (← is, ← eu) q.0.1) tested, any_is, ef, stamp_is, is)
             (rw (z.declared.flags (effect s h e) (rw is at flagged)))
 
-        pub stop_second : f ≡ false → good_effect s h e ≡ true → ⊥
-        stop_second x y = true_false y (sym fresh_is ∙ x)
+        pub stop_second : f ≡ false → good_effect s h e ≡ false
+        stop_second x = sym fresh_is ∙ x
 
-        pub again : f ≡ true → Turn s h room first end (e + 1) r.w3 (set t (source_of r) m)
+        pub again : f ≡ true → Turn s h room first (e + 1) r.w3 (set t (source_of r) m)
         again x =
             record {
               low = omega (arith, w.low);
-              high = omega arith;
               small = few;
               last = λ _. rw is (ap (outcome s h) (omega arith));
               seen = record {
@@ -160,33 +160,15 @@ module _ (s : List ℤ) (h : Header) (d : List Bool) (o first end outcomes e bef
                 rw add-one
                 (unfold last_stamp in rw (← is, ne_eqb (source_of r) y v) (get_or-set_other t (source_of r) y m 0 (λ u. v (sym u)) ∙ w.seen.stamps y q))
 
--- what the loop returns
-pub stopped : {s : List ℤ} {h : Header} {m first end e before : ℕ} {t : List ℕ} → Turn s h m first end e before t → e < end
-    → (good_effect s h e ≡ true → ⊥) → Stretch s h m first end e t
-stopped w l n = record { low = w.low; high = w.high; good = w.seen.good; bad = λ _. n; seen = λ x. absurd (omega arith) }
-
-pub finished : {s : List ℤ} {h : Header} {m first end e before : ℕ} {t : List ℕ} → Turn s h m first end e before t → end ≤ e
-    → Stretch s h m first end e t
-finished {s} {h} {m} {first} {end} {e} {before} {t} w l =
-    record {
-      low = w.low;
-      high = w.high;
-      good = w.seen.good;
-      bad = λ x y. absurd (omega arith);
-      seen = λ _. subst (λ (n : ℕ). Seen s h m n t) (omega (arith, w.high)) w.seen;
-    }
-
 -- ---- operation by operation
 
 pub record Walk (s : List ℤ) (h : Header) (m o first : ℕ) (t : List ℕ) : Type 0 where
-  pub here : o ≤ h.operations
   pub at : first ≡ sum_below (λ k. (operation s h k).w3) o
   pub seen : Seen s h m first t
 
 pub set_out : (s : List ℤ) (h : Header) (m : ℕ) (t : List ℕ) → 16 * h.entities ≤ m → t ≡ replicate m 0 → Walk s h m 0 0 t
 set_out s h m t l e =
     rw e (record {
-      here = omega arith;
       at = sym (sum_zero (λ k. (operation s h k).w3));
       seen =
           record {
@@ -222,22 +204,16 @@ module _ (s : List ℤ) (h : Header) (d : List Bool) (o first : ℕ) {room : ℕ
   pub lent : Seen s h (length t) first t
   lent = subst (λ (k : ℕ). Seen s h k first t) (sym w.seen.long) w.seen
 
-  module _ {e : ℕ} {u : List ℕ} (x : Stretch s h (length t) first (first + m) e u) where
-    pub onward : first + m ≤ e → Walk s h room (o + 1) (first + m) u
-    onward q =
-        record {
-          here = omega arith;
-          at = rw (sum_more (λ k. (operation s h k).w3) o, w.at, count_is);
-          seen = subst (λ (k : ℕ). Seen s h k (first + m) u) w.seen.long (x.seen q);
-        }
+  pub onward : {u : List ℕ} → Seen s h (length t) (first + m) u → Walk s h room (o + 1) (first + m) u
+  onward {u} x =
+      record {
+        at = rw (sum_more (λ k. (operation s h k).w3) o, w.at, count_is);
+        seen = subst (λ (k : ℕ). Seen s h k (first + m) u) w.seen.long x;
+      }
 
-    pub found : e < first + m → e ≡ first_fail (good_effect s h) 0 h.effects
-    found q =
-        fail_at (good_effect s h) h.effects e (omega (arith, end_inside)) x.good
-        (⊎_elim (λ p. absurd (x.bad q p)) (λ p. p) (bool_cases (good_effect s h e)))
-
-pub arrived : (s : List ℤ) (h : Header) (d : List Bool) (o first : ℕ) {room : ℕ} (t : List ℕ) → BeforeEffects s h d → Walk s h room o first t
-    → h.operations ≤ o → first ≡ first_fail (good_effect s h) 0 h.effects
-arrived s h d o first t z w l =
-    let e : first ≡ h.effects = w.at ∙ ap (sum_below (λ k. (operation s h k).w3)) (omega (arith, w.here)) ∙ covers s h z.groups in
-    fail_none (good_effect s h) h.effects first (omega (arith, e)) (omega (arith, e)) w.seen.good
+-- after the last operation all effects are good
+pub arrived : {s : List ℤ} {h : Header} {d : List Bool} {o first room : ℕ} {t : List ℕ} → BeforeEffects s h d → Walk s h room o first t
+    → o ≡ h.operations → (j : ℕ) → j < h.effects → good_effect s h j ≡ true
+arrived {s} {h} {d} {o} {first} z w l j q =
+    let e : first ≡ h.effects = w.at ∙ ap (sum_below (λ k. (operation s h k).w3)) l ∙ covers s h z.groups in
+    w.seen.good j (omega arith)

@@ -12,7 +12,7 @@ use Rattle.records.specs.Operations.{good_operation, good_effect, operation_of, 
 use Rattle.sheet_states.specs.Flags.{Declared}
 
 -- a number for the record's entity and from
-abbrev pub source_of : Record → ℕ
+abbrev pub source_of : Record ℕ → ℕ
 source_of r = 16 * r.w0 + r.w1
 
 -- the stamp of effect e's outcome
@@ -45,11 +45,3 @@ pub record Seen (s : List ℤ) (h : Header) (m e : ℕ) (t : List ℕ) : Type 0 
   pub long : length t ≡ m
   pub stamps : (x : ℕ) → x < m → get_or t x 0 ≡ last_stamp s h x e
   pub good : (j : ℕ) → j < e → good_effect s h j ≡ true
-
--- e is the first bad effect from first to end, or end where none is, and then the array is kept up
-pub record Stretch (s : List ℤ) (h : Header) (m first end e : ℕ) (t : List ℕ) : Type 0 where
-  pub low : first ≤ e
-  pub high : e ≤ end
-  pub good : (j : ℕ) → j < e → good_effect s h j ≡ true
-  pub bad : e < end → good_effect s h e ≡ true → ⊥
-  pub seen : end ≤ e → Seen s h m end t

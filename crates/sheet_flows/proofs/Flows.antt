@@ -8,10 +8,9 @@ use lib.IntN.{ℤ}
 use lib.Dec.{eqb, leb}
 use native.Mathlib.Omega.{arith}
 use Rattle.layout.proofs.Groups.{covers_steps}
-use Rattle.tables.specs.Scan.{sum_below, first_fail}
+use Rattle.tables.specs.Scan.{sum_below}
 use Rattle.tables.proofs.Bools.{tests}
 use Rattle.tables.proofs.Scans.{sum_zero, sum_more, sum_mono, extend_one}
-use Rattle.tables.proofs.Scanned.{fail_at, fail_none}
 use Rattle.words.specs.declared.Record.{Record}
 use Rattle.words.specs.Record.{record_at, unused}
 use Rattle.layout.specs.declared.Header.{Header}
@@ -42,14 +41,13 @@ step_start s h i p = let q = simp tests at p in q.0.1
 
 -- at the loop's head
 pub record Turn (s : List ℤ) (h : Header) (k sum : ℕ) : Type 0 where
-  pub here : k ≤ h.flows
   pub is : sum ≡ sum_below (step_count s h) k
   pub good : (j : ℕ) → j < k → good_flow s h j ≡ true
 
 pub begin : (s : List ℤ) (h : Header) → Turn s h 0 0
-begin s h = record { here = omega arith; is = sym (sum_zero (step_count s h)); good = λ j l. absurd (omega arith) }
+begin s h = record { is = sym (sum_zero (step_count s h)); good = λ j l. absurd (omega arith) }
 
-module _ (s : List ℤ) (h : Header) (k sum : ℕ) (w : Turn s h k sum) (l : k < h.flows) {base : ℕ} {r : Record} {u : Bool}
+module _ (s : List ℤ) (h : Header) (k sum : ℕ) (w : Turn s h k sum) (l : k < h.flows) {base : ℕ} {r : Record ℕ} {u : Bool}
     (eb : base ≡ first_flow h) (er : r ≡ record_at s (base + k)) (eu : u ≡ unused 2 r) where
   is : r ≡ flow s h k
   is = er ∙ rw eb
@@ -72,13 +70,9 @@ module _ (s : List ℤ) (h : Header) (k sum : ℕ) (w : Turn s h k sum) (l : k <
   pub again : (eqb r.w0 sum && leb 1 r.w1 && u) ≡ true → Turn s h (k + 1) (sum + r.w1)
   again p =
       record {
-        here = omega arith;
         is = rw (sum_more (step_count s h) k, w.is, is, steps_of s h k);
         good = extend_one (λ (j : ℕ). good_flow s h j ≡ true) k w.good (sym test ∙ p);
       }
 
-  pub stop : (eqb r.w0 sum && leb 1 r.w1 && u) ≡ false → k ≡ first_fail (good_flow s h) 0 h.flows
-  stop p = fail_at (good_flow s h) h.flows k l w.good (sym test ∙ p)
-
-pub finish : (s : List ℤ) (h : Header) (k sum : ℕ) → Turn s h k sum → h.flows ≤ k → k ≡ first_fail (good_flow s h) 0 h.flows
-finish s h k sum w l = fail_none (good_flow s h) h.flows k w.here l w.good
+  pub stop : (eqb r.w0 sum && leb 1 r.w1 && u) ≡ false → good_flow s h k ≡ false
+  stop p = sym test ∙ p

@@ -1,5 +1,6 @@
 -- The scan of the routes.
 -- Assumes nothing.
+use Rattle.std.specs.Prelude.{Ok}
 use mathlib.Core.Path.{◌≡◌, refl, sym, ap, ◌∙◌}
 use mathlib.Core.Bool.{Bool, true, false}
 use mathlib.Core.List.{List}
@@ -9,9 +10,10 @@ use native.Mathlib.Omega.{arith}
 use native.Mathlib.Decide.{ℕ_discrete, dec_lt}
 use borrow.Author.Tests.{eq-eqb, ne_eqb}
 use Rattle.layout.proofs.Groups.{covers_steps, covers_routes}
-use Rattle.tables.specs.Scan.{sum_below, first_fail}
-use Rattle.tables.proofs.Scans.{sum_zero, sum_more, sum_mono}
-use Rattle.tables.proofs.Scanned.{step as one_more, fail_at, fail_none}
+use Rattle.tables.specs.Scan.{sum_below}
+use Rattle.tables.proofs.Scans.{sum_zero, sum_more, sum_mono, extend_one}
+use Rattle.records.specs.Scans.{scanned}
+use Rattle.records.proofs.Scans.{scan_good}
 use Rattle.words.specs.declared.Record.{Record}
 use Rattle.words.specs.Record.{number, record_at}
 use Rattle.layout.specs.declared.Header.{Header}
@@ -21,7 +23,7 @@ use Rattle.layout.specs.Tables.{flow, step}
 use Rattle.layout.proofs.Owners.{holder_is}
 use Rattle.records.specs.Flows.{good_route, good_route_of, routes_end, steps_end, flow_of, step_of}
 use Rattle.sheet_flows.specs.declared.Cursor.{Cursor}
-use Rattle.sheet_flows.specs.Routes.{FlowsGood, Room, StepAt, Stretch, moved}
+use Rattle.sheet_flows.specs.Routes.{FlowsGood, Room, StepAt, moved}
 use Rattle.sheet_flows.proofs.Flows.{steps_of, routes_of_lem, flow_start, flow_some, step_start}
 
 module _ (s : List ℤ) (h : Header) (z : FlowsGood s h) where
@@ -50,40 +52,32 @@ module _ (s : List ℤ) (h : Header) (z : FlowsGood s h) where
 
 -- ---- the routes of one step
 
-pub record Turn (s : List ℤ) (h : Header) (first end k : ℕ) : Type 0 where
+pub record Turn (s : List ℤ) (h : Header) (first k : ℕ) : Type 0 where
   pub low : first ≤ k
-  pub high : k ≤ end
-  pub good : (j : ℕ) → first ≤ j → j < k → good_route s h j ≡ true
+  pub good : (j : ℕ) → j < k → good_route s h j ≡ true
 
-pub begin : (s : List ℤ) (h : Header) (first end : ℕ) → first ≤ end → Turn s h first end first
-begin s h first end l = record { low = omega arith; high = l; good = λ j p q. absurd (omega arith) }
-
-module _ (s : List ℤ) (h : Header) (i last first end k : ℕ) (z : FlowsGood s h) (a : StepAt s h i last first end) (w : Turn s h first end k)
+module _ (s : List ℤ) (h : Header) (i last first end k : ℕ) (z : FlowsGood s h) (a : StepAt s h i last first end) (w : Turn s h first k)
     (l : k < end) where
   pub inside : k < h.routes
   inside = omega (arith, routes_inside s h z i a.here, a.ends)
 
-  module _ {base : ℕ} {r : Record} {b : Bool} (eb : base ≡ first_route h) (er : r ≡ record_at s (base + k)) (et : b ≡ good_route_of i last r) where
+  module _ {base : ℕ} {r : Record ℕ} {b : Bool} (eb : base ≡ first_route h) (er : r ≡ record_at s (base + k)) (et : b ≡ good_route_of i last r) where
     test : b ≡ good_route s h k
     unfolding good_route
     test =
         rw (step_is s h z i k a.here (omega (arith, a.starts, w.low)) (omega (arith, a.ends)), ← a.flow)
         (et ∙ ap (good_route_of i last) (er ∙ rw eb))
 
-    pub again : b ≡ true → Turn s h first end (k + 1)
-    again p = record { low = omega (arith, w.low); high = omega arith; good = one_more (good_route s h) first k w.good (sym test ∙ p) }
+    pub again : b ≡ true → Turn s h first (k + 1)
+    again p = record { low = omega (arith, w.low); good = extend_one (λ (j : ℕ). good_route s h j ≡ true) k w.good (sym test ∙ p) }
 
-    pub stop : b ≡ false → Stretch s h first end k
-    stop p = record { low = w.low; high = w.high; good = w.good; bad = λ _. sym test ∙ p }
-
-pub finish : (s : List ℤ) (h : Header) (first end k : ℕ) → Turn s h first end k → end ≤ k → Stretch s h first end k
-finish s h first end k w l = record { low = w.low; high = w.high; good = w.good; bad = λ x. absurd (omega arith) }
+    pub stop : b ≡ false → good_route s h k ≡ false
+    stop p = sym test ∙ p
 
 -- ---- step by step
 
 -- the cursor between steps, the next route, and the routes before it
 pub record Walk (s : List ℤ) (h : Header) (i k : ℕ) (c : Cursor) : Type 0 where
-  pub here : i ≤ h.steps
   pub at : k ≡ sum_below (route_count s h) i
   pub few : c.flows ≤ h.flows
   pub sum : c.last ≡ sum_below (step_count s h) c.flows
@@ -94,7 +88,6 @@ pub record Walk (s : List ℤ) (h : Header) (i k : ℕ) (c : Cursor) : Type 0 wh
 pub set_out : (s : List ℤ) (h : Header) → Walk s h 0 0 (record { flows = 0; last = 0 })
 set_out s h =
     record {
-      here = omega arith;
       at = sym (sum_zero (route_count s h));
       few = omega arith;
       sum = sym (sum_zero (step_count s h));
@@ -187,36 +180,24 @@ module _ (s : List ℤ) (h : Header) (i k : ℕ) (c : Cursor) (z : FlowsGood s h
         flow = rw owner (sym end);
       }
 
-  module _ {e : ℕ} (x : Stretch s h k (k + m) e) where
-    pub onward : k + m ≤ e → Walk s h (i + 1) (k + m) d
-    onward q =
-        let y = now_at in
-        record {
-          here = omega arith;
-          at = rw (sum_more (route_count s h) i, w.at, count_is);
-          few = omega (arith, y.is, y.few);
-          sum = rw y.is y.sum;
-          reached = omega (arith, y.high);
-          within = λ f u. let v : f ≡ y.f = omega (arith, u, y.is) in rw v (omega (arith, y.low));
-          good = λ j b. both j b (dec_lt j k);
-        }
-      where
-        both : (j : ℕ) → j < k + m → Dec (j < k) → good_route s h j ≡ true
-        both j b (yes p) = w.good j p
-        both j b (no n) = x.good j (omega arith) (omega arith)
+  pub onward : Ok tt ≡ scanned (first_route h) (good_route s h) (k + m) → Walk s h (i + 1) (k + m) d
+  onward x =
+      let y = now_at in
+      record {
+        at = rw (sum_more (route_count s h) i, w.at, count_is);
+        few = omega (arith, y.is, y.few);
+        sum = rw y.is y.sum;
+        reached = omega (arith, y.high);
+        within = λ f u. let v : f ≡ y.f = omega (arith, u, y.is) in rw v (omega (arith, y.low));
+        good = scan_good (first_route h) (good_route s h) (k + m) (sym x);
+      }
 
-    pub found : e < k + m → e ≡ first_fail (good_route s h) 0 h.routes
-    found q = fail_at (good_route s h) h.routes e (omega (arith, end_inside)) (λ j b. both j b (dec_lt j k)) (x.bad q)
-      where
-        both : (j : ℕ) → j < e → Dec (j < k) → good_route s h j ≡ true
-        both j b (yes p) = w.good j p
-        both j b (no n) = x.good j (omega arith) b
-
-pub arrived : (s : List ℤ) (h : Header) (i k : ℕ) (c : Cursor) → FlowsGood s h → Walk s h i k c → h.steps ≤ i
-    → k ≡ first_fail (good_route s h) 0 h.routes
-arrived s h i k c z w l =
-    let e : k ≡ h.routes = w.at ∙ ap (sum_below (route_count s h)) (omega (arith, w.here)) ∙ covers_routes s h z.groups in
-    fail_none (good_route s h) h.routes k (omega (arith, e)) (omega (arith, e)) w.good
+-- after the last step all routes are good
+pub arrived : {s : List ℤ} {h : Header} {i k : ℕ} {c : Cursor} → FlowsGood s h → Walk s h i k c → i ≡ h.steps → (j : ℕ) → j < h.routes
+    → good_route s h j ≡ true
+arrived {s} {h} {i} {k} z w l j q =
+    let e : k ≡ h.routes = w.at ∙ ap (sum_below (route_count s h)) l ∙ covers_routes s h z.groups in
+    w.good j (omega arith)
 
 pub last_inside : (s : List ℤ) (h : Header) (c : Cursor) (i : ℕ) → Room s h c i → i ≡ c.last → c.last + step_count s h c.flows ≤ h.steps
 last_inside s h c i r e =

@@ -1,12 +1,12 @@
 -- What the scan of the routes keeps: the flow of the present step, and where that flow's steps end.
 -- Assumes nothing.
-use Rattle.std.specs.Prelude.{◌≡◌, true, false, cond, List, ℕ, ◌+◌, ◌≤◌, ◌<◌, ℤ, eqb}
+use Rattle.std.specs.Prelude.{◌≡◌, true, cond, List, ℕ, ◌+◌, ◌≤◌, ◌<◌, ℤ, eqb}
 use Rattle.tables.specs.Scan.{sum_below}
 use Rattle.layout.specs.declared.Header.{Header}
 use Rattle.layout.specs.Groups.{good_groups, step_count}
 use Rattle.layout.specs.Sized.{Sized}
 use Rattle.layout.specs.Tables.{step, route_start_of}
-use Rattle.records.specs.Flows.{good_flow, good_step, good_route, routes_end, steps_end, flow_of}
+use Rattle.records.specs.Flows.{good_flow, good_step, routes_end, steps_end, flow_of}
 use Rattle.sheet_flows.specs.declared.Cursor.{Cursor}
 
 -- what is known before the routes are scanned
@@ -35,10 +35,3 @@ pub record StepAt (s : List ℤ) (h : Header) (i last first end : ℕ) : Type 0 
   pub starts : first ≡ route_start_of (step s h i)
   pub ends : end ≡ routes_end s h i
   pub flow : last ≡ steps_end s h (flow_of s h i)
-
--- k is the first bad route from first to end, or end where none is
-pub record Stretch (s : List ℤ) (h : Header) (first end k : ℕ) : Type 0 where
-  pub low : first ≤ k
-  pub high : k ≤ end
-  pub good : (j : ℕ) → first ≤ j → j < k → good_route s h j ≡ true
-  pub bad : k < end → good_route s h k ≡ false

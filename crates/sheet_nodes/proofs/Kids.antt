@@ -1,113 +1,95 @@
 -- The children as the code holds them, against their list.
 -- Assumes nothing.
-use mathlib.Core.Path.{◌≡◌, refl}
-use mathlib.Core.Bool.{Bool, true, false, not, cond, ◌&&◌, ◌||◌}
-use mathlib.Core.List.{[], ◌∷◌}
-use Prim.Native.Nat.{ℕ, zero, suc, ◌≤◌, ◌<◌, max}
+use mathlib.Core.Path.{◌≡◌, refl, sym, ap, ◌∙◌}
+use mathlib.Core.Bool.{Bool, true, false, not, ◌&&◌, ◌||◌}
+use mathlib.Core.List.{List, [], ◌∷◌}
+use Prim.Native.Nat.{ℕ, ◌≤◌, ◌<◌}
 use lib.Dec.{ltb, eqb}
+use lib.ListN.{length, get_or, set, length-set}
 use native.Mathlib.Omega.{arith}
-use borrow.Author.Tests.{lt-ltb, le-ltb}
 use Rattle.tables.specs.Lists.{has, all_of, distinct, pick}
-use Rattle.tables.proofs.Bools.{true_false}
+use Rattle.tables.proofs.Bools.{or_assoc}
+use Rattle.tables.proofs.Entries.{or_false, marked_flags}
 use Rattle.tables.proofs.Lists.{Before}
+use Rattle.item.specs.Items.{none}
 use Rattle.node.specs.declared.Kids.{Kids}
-use Rattle.node.specs.Judged.{up_to, kids}
+use Rattle.node.specs.declared.Kids.TheVariants.{Zero, One, Two}
+use Rattle.node.specs.Judged.{kids}
+use Rattle.node.proofs.OneKind.{no_cons}
 use Rattle.records.specs.Nodes.{good_children}
-use Rattle.sheet_nodes.specs.Arrays.{greatest}
-use Rattle.sheet_nodes.specs.Steps.{Inside}
+use Rattle.sheet_nodes.specs.declared.Ranges.{Ranges}
+use Rattle.sheet_nodes.specs.declared.Trees.{Trees}
+use Rattle.sheet_nodes.specs.Arrays.{item_at}
+use Rattle.sheet_nodes.specs.Steps.{first_kid, second_kid, Inside, name_kids}
 
--- with two children or more both are there
-one_two : (k : ℕ) → (ltb 0 (suc (suc k)) ≡ true) × (ltb 1 (suc (suc k)) ≡ true)
-one_two k = (lt-ltb 0 (suc (suc k)) (omega arith), lt-ltb 1 (suc (suc k)) (omega arith))
-
-few_two : (k : ℕ) → (ltb (suc (suc k)) 1 ≡ false) × (ltb (suc (suc k)) 2 ≡ false)
-few_two k = (le-ltb (suc (suc k)) 1 (omega arith), le-ltb (suc (suc k)) 2 (omega arith))
-
-module _ {A : Type 0} (f : ℕ → A) (d : A) where
-  first_of : (k a b : ℕ) → pick f d (up_to k a b) 0 ≡ cond (ltb 0 k) (f a) d
+module _ (v : Ranges) (t : Trees) where
+  pub kid_first : (c : Kids) → pick (item_at v t) none (kids c) 0 ≡ first_kid c v t
   unfolding pick
-  first_of zero a b = refl
-  first_of (suc zero) a b = refl
-  first_of (suc (suc k)) a b = rw (one_two k).0
+  kid_first Zero = refl
+  kid_first (One a) = refl
+  kid_first (Two a b) = refl
 
-  second_of : (k a b : ℕ) → pick f d (up_to k a b) 1 ≡ cond (ltb 1 k) (f b) d
+  pub kid_second : (c : Kids) → pick (item_at v t) none (kids c) 1 ≡ second_kid c v t
   unfolding pick
-  second_of zero a b = refl
-  second_of (suc zero) a b = refl
-  second_of (suc (suc k)) a b = rw (one_two k).1
+  kid_second Zero = refl
+  kid_second (One a) = refl
+  kid_second (Two a b) = refl
 
-  pub kid_first : (c : Kids) → pick f d (kids c) 0 ≡ cond (ltb 0 c.count) (f c.first) d
-  kid_first c = first_of c.count c.first c.second
+-- the tests of no child, of one and of two
+module _ (n : ℕ) (named : ℕ → Bool) where
+  pub linked_none : true ≡ good_children n named []
+  unfolding good_children all_of distinct
+  linked_none = refl
 
-  pub kid_second : (c : Kids) → pick f d (kids c) 1 ≡ cond (ltb 1 c.count) (f c.second) d
-  kid_second c = second_of c.count c.first c.second
+  pub linked_one : (a : ℕ) → (ltb a n && not (named a)) ≡ good_children n named (a ∷ [])
+  unfolding good_children all_of distinct has
+  linked_one a = one (ltb a n && not (named a))
+    where
+      one : (p : Bool) → p ≡ (p && true && true)
+      one true = refl
+      one false = refl
 
-pub has_kids : (x : ℕ) (c : Kids) → has x (kids c) ≡ ((ltb 0 c.count && eqb c.first x) || (ltb 1 c.count && eqb c.second x))
-unfolding has
-has_kids x c = go c.count c.first c.second
-  where
-    tail : (p q : Bool) → (p || (q || false)) ≡ (p || q)
-    tail true q = refl
-    tail false true = refl
-    tail false false = refl
-
-    go : (k a b : ℕ) → has x (up_to k a b) ≡ ((ltb 0 k && eqb a x) || (ltb 1 k && eqb b x))
-    go zero a b = refl
-    go (suc zero) a b = refl
-    go (suc (suc k)) a b = rw ((one_two k).0, (one_two k).1) (tail (eqb a x) (eqb b x))
-
-pub greatest_kids : (f : ℕ → ℕ) (c : Kids)
-    → greatest f (kids c) ≡ max (cond (ltb 0 c.count) (f c.first) 0) (cond (ltb 1 c.count) (f c.second) 0)
-unfolding greatest
-greatest_kids f c = go c.count c.first c.second
-  where
-    go : (k a b : ℕ) → greatest f (up_to k a b) ≡ max (cond (ltb 0 k) (f a) 0) (cond (ltb 1 k) (f b) 0)
-    go zero a b = refl
-    go (suc zero) a b = refl
-    go (suc (suc k)) a b = rw ((one_two k).0, (one_two k).1) (omega arith)
-
-pub linked_is : (n : ℕ) (named : ℕ → Bool) (c : Kids)
-    → ((ltb c.count 1 || (ltb c.first n && not (named c.first)))
-    && (ltb c.count 2 || ((ltb c.second n && not (named c.second)) && not (eqb c.second c.first))))
-    ≡ good_children n named (kids c)
-unfolding good_children all_of distinct has
-linked_is n named c = go c.count c.first c.second
-  where
-    one : (p : Bool) → (p && true) ≡ (p && true && true)
-    one true = refl
-    one false = refl
-
-    two : (p q r : Bool) → (p && (q && not r)) ≡ (p && (q && true) && (not (r || false) && true))
-    two true true true = refl
-    two true true false = refl
-    two true false r = refl
-    two false q r = refl
-
-    go : (k a b : ℕ)
-        → ((ltb k 1 || (ltb a n && not (named a))) && (ltb k 2 || ((ltb b n && not (named b)) && not (eqb b a))))
-        ≡ (all_of (λ c. ltb c n && not (named c)) (up_to k a b) && distinct (up_to k a b))
-    go zero a b = refl
-    go (suc zero) a b = one (ltb a n && not (named a))
-    go (suc (suc k)) a b = rw ((few_two k).0, (few_two k).1) (two (ltb a n && not (named a)) (ltb b n && not (named b)) (eqb b a))
+  pub linked_two : (a b : ℕ) → (ltb a n && not (named a) && ltb b n && not (named b) && not (eqb b a)) ≡ good_children n named (a ∷ b ∷ [])
+  unfolding good_children all_of distinct has
+  linked_two a b = two (ltb a n && not (named a)) (ltb b n) (not (named b)) (eqb b a)
+    where
+      two : (p q r e : Bool) → (p && q && r && not e) ≡ (p && (q && r && true) && (not (e || false) && true))
+      two false q r e = refl
+      two true false r e = refl
+      two true true false e = refl
+      two true true true true = refl
+      two true true true false = refl
 
 pub inside_kids : (n m : ℕ) (c : Kids) → Before n (kids c) → n ≤ m → Inside c m
-inside_kids n m c b l = record { first = one c.count c.first c.second b; second = two c.count c.first c.second b }
-  where
-    one : (k a b : ℕ) → Before n (up_to k a b) → ltb 0 k ≡ true → a < m
-    one zero a b p e = absurd (true_false e refl)
-    one (suc zero) a b p e = omega (arith, p.0)
-    one (suc (suc k)) a b p e = omega (arith, p.0)
+inside_kids n m Zero b l = tt
+inside_kids n m (One i) b l = omega (arith, b.0)
+inside_kids n m (Two i j) b l = (omega (arith, b.0), omega (arith, b.1.0))
 
-    two : (k a b : ℕ) → Before n (up_to k a b) → ltb 1 k ≡ true → b < m
-    two zero a b p e = absurd (true_false e refl)
-    two (suc zero) a b p e = absurd (true_false e refl)
-    two (suc (suc k)) a b p e = omega (arith, p.1.0)
+-- a node with children has some in the list
+pub some_kids : (c : Kids) → (c ≡ Zero → ⊥) → kids c ≡ [] → ⊥
+some_kids Zero p e = p refl
+some_kids (One i) p e = no_cons i [] e
+some_kids (Two i j) p e = no_cons i (j ∷ []) e
 
--- where the code counts a child, the list has one
-pub some_kids : (c : Kids) → (c.count ≡ 0 → ⊥) → kids c ≡ [] → ⊥
-some_kids c p e = go c.count refl c.first c.second e
-  where
-    go : (m : ℕ) → c.count ≡ m → (a b : ℕ) → up_to c.count a b ≡ [] → ⊥
-    go zero z a b f = p z
-    go (suc zero) z a b f = let x : a ∷ [] ≡ [] = rw z at f in let y : ◌≡◌ {A = ℕ} 0 1 = cc in omega arith
-    go (suc (suc m)) z a b f = let x : a ∷ b ∷ [] ≡ [] = rw z at f in let y : ◌≡◌ {A = ℕ} 0 1 = cc in omega arith
+-- one child in the list is the only one
+pub only_kid : (c : Kids) (b : ℕ) → kids c ≡ (b ∷ []) → c ≡ One b
+only_kid Zero b e = absurd (no_cons b [] (sym e))
+only_kid (One i) b e = let q : i ≡ b = cc in ap One q
+only_kid (Two i j) b e = let q : ◌≡◌ {A = List ℕ} (j ∷ []) [] = cc in absurd (no_cons j [] q)
+
+-- the flags with the children's set
+pub length_named : (c : Kids) (named : List Bool) → length (name_kids c named) ≡ length named
+length_named Zero named = refl
+length_named (One i) named = length-set named i true
+length_named (Two i j) named = length-set (set named i true) j true ∙ length-set named i true
+
+pub named_kids : (f : ℕ → Bool) (c : Kids) (named : List Bool) → ((a : ℕ) → a < length named → get_or named a false ≡ f a) → (a : ℕ)
+    → a < length named → get_or (name_kids c named) a false ≡ (f a || has a (kids c))
+unfolding has
+named_kids f Zero named h a l = h a l ∙ sym (or_false (f a))
+named_kids f (One i) named h a l = marked_flags f true i named h a l ∙ ap (λ (b : Bool). f a || b) (sym (or_false (eqb i a)))
+named_kids f (Two i j) named h a l =
+    marked_flags (λ a. f a || eqb i a) true j (set named i true)
+    (λ a q. marked_flags f true i named h a (rw (length-set named i true) at q)) a (rw (length-set named i true) l)
+    ∙ or_assoc (f a) (eqb i a) (eqb j a)
+    ∙ ap (λ (b : Bool). f a || (eqb i a || b)) (sym (or_false (eqb j a)))

@@ -1,6 +1,6 @@
 pub mod Kids
-pub mod Tops
 pub mod Scopes
+pub mod Tops
 pub mod Scan
 pub mod Turns
 pub mod Leaves

@@ -1,32 +1,34 @@
 -- The number of a tree: of two together, of a quantifier, of a node from its children's; and what it says of the tree.
 -- Assumes nothing.
+use Rattle.std.specs.Prelude.{Option, None, Some}
 use mathlib.Core.Path.{◌≡◌, refl, sym, ap, ap₂, subst, ◌∙◌}
 use mathlib.Core.Bool.{Bool, true, false, not, cond, ◌&&◌, ◌||◌}
 use mathlib.Core.List.{List, [], ◌∷◌}
 use mathlib.Core.Logic.{◌⊎◌, inl, inr, ⊎_elim}
-use Prim.Native.Nat.{ℕ, zero, suc, ◌≤◌, ◌<◌}
+use Prim.Native.Nat.{ℕ, suc, ◌≤◌, ◌<◌}
 use lib.IntN.{ℤ}
 use lib.Dec.{leb, ltb, eqb}
 use lib.ListN.{get_or}
 use native.Mathlib.Omega.{arith}
 use native.Mathlib.Decide.{ℕ_discrete, dec_lt}
 use borrow.Author.Tests.{lt-ltb, le-ltb, le-leb, lt-leb, eq-eqb, ne_eqb}
-use Rattle.tables.specs.Lists.{has, any_of, pick}
+use Rattle.tables.specs.Lists.{has, any_of}
 use Rattle.tables.proofs.Bools.{or_true_left, or_true_right, and_true, and_no, not_of_false}
 use Rattle.tables.proofs.Scans.{all_of, all_fails}
 use Rattle.tables.proofs.Entries.{or_false}
 use Rattle.tables.proofs.Lists.{Before}
 use Rattle.signed.specs.Words.{num}
-use Rattle.words.specs.declared.Words.{Words}
+use Rattle.words.specs.declared.Record.{Record}
 use Rattle.layout.specs.declared.Header.{Header}
 use Rattle.node.specs.declared.Kids.{Kids}
-use Rattle.node.specs.Judged.{up_to, kids}
+use Rattle.node.specs.declared.Kids.TheVariants.{Zero, One, Two}
+use Rattle.node.specs.Judged.{kids}
 use Rattle.records.specs.Nodes.{node_words, children_of, elements_by, bound_by, quantifies, flat, good_node, loose_step, loose}
 use Rattle.records.specs.Names.{closed}
 use Rattle.node.proofs.OverLists.{unscoped, binder, citer}
 use Rattle.records.proofs.ScopeLaws.{quantified, unbound, bound, loose_is, quantified_is, flat_is, loose_list}
-use Rattle.sheet_nodes.specs.Scopes.{Scope, Scoped, shut, joint, over, kid_byte, node_scope}
-use Rattle.sheet_nodes.proofs.Kids.{kid_first}
+use Rattle.sheet_nodes.specs.Scopes.{Scope, Scoped, shut, joint, over, kid_scope, node_scope}
+use Rattle.sheet_nodes.proofs.Kids.{only_kid}
 
 -- ---- no tree, an element, and the same under another name
 
@@ -146,86 +148,102 @@ both {a} {b} x y = both_case (joint a b) x y (joint_is a b)
 
 -- ---- a quantifier over list l
 
-data Over (l a c : ℕ) : Type 0 where
-  nested : 130 ≤ a → c ≡ 132 → Over l a c
-  closes : a < 130 → (a ≡ 0) ⊎ (a ≡ suc l) → c ≡ 130 → Over l a c
-  leaves : a < 130 → (a ≡ 0 → ⊥) → (a ≡ suc l → ⊥) → c ≡ 131 → Over l a c
+data Over (l a : ℕ) (c : Option ℕ) : Type 0 where
+  nested : 130 ≤ a → c ≡ None → Over l a c
+  closes : a < 130 → (a ≡ 0) ⊎ (a ≡ suc l) → c ≡ Some 130 → Over l a c
+  leaves : a < 130 → (a ≡ 0 → ⊥) → (a ≡ suc l → ⊥) → c ≡ Some 131 → Over l a c
 
 over_is : (l a : ℕ) → Over l a (over l a)
 unfolding over
 over_is l a = go (dec_lt a 130) (ℕ_discrete a 0) (ℕ_discrete a (suc l))
   where
-    go : Dec (a < 130) → Dec (a ≡ 0) → Dec (a ≡ suc l) → Over l a (cond (leb 130 a) 132 (cond (eqb a 0 || eqb a (suc l)) 130 131))
+    go : Dec (a < 130) → Dec (a ≡ 0) → Dec (a ≡ suc l) → Over l a (cond (leb 130 a) None (cond (eqb a 0 || eqb a (suc l)) (Some 130) (Some 131)))
     go (no u) x y = nested (omega arith) (rw (le-leb 130 a (omega arith)))
     go (yes u) (yes x) y = closes u (inl x) (rw (lt-leb 130 a u, eq-eqb a 0 x))
     go (yes u) (no x) (yes y) = closes u (inr y) (rw (lt-leb 130 a u, ne_eqb a 0 x, eq-eqb a (suc l) y))
     go (yes u) (no x) (no y) = leaves u x y (rw (lt-leb 130 a u, ne_eqb a 0 x, ne_eqb a (suc l) y))
 
 module _ {l a : ℕ} {p : Bool} {L : ℕ → Bool} (few : l < 128) (x : Scope a p L) where
-  -- it is flat where its body has no quantifier
-  over_flat : not p ≡ not (eqb (over l a) 132)
-  over_flat = go (over l a) (over_is l a)
+  -- it has a number where no quantifier stands in its body
+  over_nested : None ≡ over l a → p ≡ true
+  over_nested e = go (over_is l a)
     where
-      go : (c : ℕ) → Over l a c → not p ≡ not (eqb c 132)
-      go c (nested m e) = rw (e, high x m)
-      go c (closes m z e) = rw (e, low x m)
-      go c (leaves m y z e) = rw (e, low x m)
+      go : Over l a (over l a) → p ≡ true
+      go (nested m z) = high x m
+      go (closes m y z) = absurd (let q = e ∙ z in cc)
+      go (leaves m y u z) = absurd (let q = e ∙ z in cc)
 
-  over_scope : (over l a ≡ 132 → ⊥) → Scope (over l a) true (λ f. not (eqb l f) && L f)
-  over_scope d = go (over l a) d (over_is l a)
+  over_open : {c : ℕ} → Some c ≡ over l a → p ≡ false
+  over_open {c} e = go (over_is l a)
+    where
+      go : Over l a (over l a) → p ≡ false
+      go (nested m z) = absurd (let q = e ∙ z in cc)
+      go (closes m y z) = low x m
+      go (leaves m y u z) = low x m
+
+  over_scope : {c : ℕ} → Some c ≡ over l a → Scope c true (λ f. not (eqb l f) && L f)
+  over_scope {c} e = go (over_is l a)
     where
       quiet_at : a < 130 → (a ≡ 0) ⊎ (a ≡ suc l) → (f : ℕ) → Dec (l ≡ f) → (not (eqb l f) && L f) ≡ false
       quiet_at m z f (yes e) = rw (eq-eqb l f e)
       quiet_at m (inl z) f (no n) = rw (nothing x z f) (and_no (not (eqb l f)))
       quiet_at m (inr z) f (no n) = rw (x.only f (omega arith) (λ i. n (omega arith))) (and_no (not (eqb l f)))
 
-      go : (c : ℕ) → (c ≡ 132 → ⊥) → Over l a c → Scope c true (λ f. not (eqb l f) && L f)
-      go c d (nested m e) = absurd (d e)
-      go c d (closes m z e) =
-          rw e (record {
+      number : {m : ℕ} → over l a ≡ Some m → c ≡ m
+      number z = let q = e ∙ z in cc
+
+      go : Over l a (over l a) → Scope c true (λ f. not (eqb l f) && L f)
+      go (nested m z) = absurd (let q = e ∙ z in cc)
+      go (closes m y z) =
+          rw (number z) (record {
             small = omega arith;
             quantifier = refl;
             only = λ f u v. absurd (omega arith);
-            quiet = λ f u. quiet_at m z f (ℕ_discrete l f);
+            quiet = λ f u. quiet_at m y f (ℕ_discrete l f);
             some = λ u v. absurd (v refl);
             other = λ g n u v. absurd (omega arith);
           })
-      go c d (leaves m y z e) =
-          rw e (record {
+      go (leaves m y u z) =
+          rw (number z) (record {
             small = omega arith;
             quantifier = refl;
             only = λ f u v. absurd (omega arith);
             quiet = λ f u. absurd (omega arith);
-            some = λ u v.
-                let r = x.other l m y z in
+            some = λ i j.
+                let r = x.other l m y u in
                 (r.0, and_true (not (eqb l r.0)) (L r.0) (not_of_false _ (ne_eqb l r.0 (λ i. r.1 (sym i)))) r.2);
             other = λ g n u v. absurd (omega arith);
           })
 
 -- ---- the children
 
+-- the number of the children's trees together
+abbrev together : List ℕ → Kids → ℕ
+together t Zero = 0
+together t (One i) = get_or t i 0
+together t (Two i j) = joint (get_or t i 0) (get_or t j 0)
+
+together_is : (k l : ℕ) (t : List ℕ) (c : Kids) → (k ≡ 14 → ⊥) → (k ≡ 15 → ⊥) → kid_scope k l t c ≡ Some (together t c)
+together_is k l t Zero i j = refl
+together_is k l t (One a) i j = rw (ne_eqb k 14 i, ne_eqb k 15 j)
+together_is k l t (Two a b) i j = refl
+
 module _ (t : List ℕ) (Q : ℕ → Bool) (L : ℕ → ℕ → Bool) (n : ℕ) (each : (j : ℕ) → j < n → Scope (get_or t j 0) (Q j) (L j)) where
-  kids_scope : (c : Kids) → Before n (kids c)
-      → Scope (joint (kid_byte t (ltb 0 c.count) c.first) (kid_byte t (ltb 1 c.count) c.second)) (any_of Q (kids c))
-      (λ f. any_of (λ j. L j f) (kids c))
+  kids_scope : (c : Kids) → Before n (kids c) → Scope (together t c) (any_of Q (kids c)) (λ f. any_of (λ j. L j f) (kids c))
   unfolding any_of
-  kids_scope c b = go c.count c.first c.second b
-    where
-      go : (m i j : ℕ) → Before n (up_to m i j)
-          → Scope (joint (kid_byte t (ltb 0 m) i) (kid_byte t (ltb 1 m) j)) (any_of Q (up_to m i j)) (λ f. any_of (λ j. L j f) (up_to m i j))
-      go zero i j b = both none none
-      go (suc zero) i j b = both (each i b.0) none
-      go (suc (suc m)) i j b =
-          rw (lt-ltb 0 (suc (suc m)) (omega arith), lt-ltb 1 (suc (suc m)) (omega arith))
-          (same (ap (λ (t : Bool). Q i || t) (sym (or_false (Q j)))) (λ f. ap (λ (t : Bool). L i f || t) (sym (or_false (L j f))))
-          (both (each i b.0) (each j b.1.0)))
+  kids_scope Zero b = none
+  kids_scope (One i) b = same (sym (or_false (Q i))) (λ f. sym (or_false (L i f))) (each i b.0)
+  kids_scope (Two i j) b =
+      same (ap (λ (t : Bool). Q i || t) (sym (or_false (Q j)))) (λ f. ap (λ (t : Bool). L i f || t) (sym (or_false (L j f))))
+      (both (each i b.0) (each j b.1.0))
 
 -- ---- a node
 
--- what the number of a node says
-pub record Numbered (s : List ℤ) (h : Header) (n c : ℕ) : Type 0 where
-  pub flat : flat s h n ≡ not (eqb c 132)
-  pub scoped : (c ≡ 132 → ⊥) → Scoped s h n c
+-- what the number of a node says, and that it has none
+pub record Numbered (s : List ℤ) (h : Header) (n : ℕ) (c : Option ℕ) : Type 0 where
+  pub nested : None ≡ c → flat s h n ≡ false
+  pub flat : {m : ℕ} → Some m ≡ c → flat s h n ≡ true
+  pub scoped : {m : ℕ} → Some m ≡ c → Scoped s h n m
 
 -- the list in word 1 of a quantifier or an element is one of 128
 pub record Lists (k l : ℕ) : Type 0 where
@@ -234,7 +252,7 @@ pub record Lists (k l : ℕ) : Type 0 where
 
 module _ (s : List ℤ) (h : Header) (n : ℕ) (before : Before n (children_of s h n)) (c : Kids) (e : kids c ≡ children_of s h n) (t : List ℕ)
     (each : (j : ℕ) → j < n → Scoped s h j (get_or t j 0)) where
-  abbrev w : Words
+  abbrev w : Record ℤ
   w = node_words s h n
 
   abbrev k : ℕ
@@ -259,61 +277,65 @@ module _ (s : List ℤ) (h : Header) (n : ℕ) (before : Before n (children_of s
   flat_from = flat_is s h n ∙ ap (λ (cs : List ℕ). not (quantifies s h n) || not (any_of (quantified s h) cs)) (sym e)
 
   -- no quantifier
-  open_flat : bound_by s h n ≡ [] → (m : ℕ) → m ≤ 131 → flat s h n ≡ not (eqb m 132)
-  open_flat z m q = flat_from ∙ rw (unbound s h n z, ne_eqb m 132 (λ i. omega arith))
+  open_number : bound_by s h n ≡ [] → (m : ℕ) → Scoped s h n m → Numbered s h n (Some m)
+  open_number z m x =
+      record {
+        nested = λ q. absurd cc;
+        flat = λ q. flat_from ∙ rw (unbound s h n z);
+        scoped = λ {m = i} q. let e : i ≡ m = cc in rw e x;
+      }
 
   -- an element
-  numbered_element : k ≡ 17 → l < 128 → Numbered s h n (suc l)
+  numbered_element : k ≡ 17 → l < 128 → Numbered s h n (Some (suc l))
   unfolding has any_of
   numbered_element ek few =
       let q = citer k ek w in
       let empty : kids c ≡ [] = e ∙ q.2 in
-      record {
-        flat = open_flat q.1 (suc l) (omega arith);
-        scoped = λ d.
-            same (sym (quantified_from ∙ rw (unbound s h n q.1, empty)))
-            (λ f. sym (loose_from f ∙ rw (q.0, q.1, empty) (or_false (eqb l f || false) ∙ or_false (eqb l f)))) (one l few);
-      }
+      open_number q.1 (suc l)
+      (same (sym (quantified_from ∙ rw (unbound s h n q.1, empty)))
+      (λ f. sym (loose_from f ∙ rw (q.0, q.1, empty) (or_false (eqb l f || false) ∙ or_false (eqb l f)))) (one l few))
 
   -- a quantifier
-  numbered_quantifier : (k ≡ 14) ⊎ (k ≡ 15) → l < 128 → Numbered s h n (over l (kid_byte t (ltb 0 c.count) c.first))
-  unfolding has any_of pick
+  numbered_quantifier : (k ≡ 14) ⊎ (k ≡ 15) → l < 128 → Numbered s h n (over l (get_or t (num w.w2) 0))
+  unfolding has any_of
   numbered_quantifier ek few =
       let q = binder k ek w in
       let b = num w.w2 in
       let body : kids c ≡ (b ∷ []) = e ∙ q.2 in
-      let code : kid_byte t (ltb 0 c.count) c.first ≡ get_or t b 0 = sym (kid_first (λ j. get_or t j 0) 0 c) ∙ rw body in
       let x = each b (subst (Before n) body before_kids).0 in
       let yes-q = bound s h n l q.0 in
-      rw code (record {
-        flat = flat_from ∙ rw (yes-q, body) (ap not (or_false (quantified s h b)) ∙ over_flat few x);
-        scoped = λ d.
+      let flat-is : flat s h n ≡ not (quantified s h b) = flat_from ∙ rw (yes-q, body) (ap not (or_false (quantified s h b))) in
+      record {
+        nested = λ z. flat-is ∙ ap not (over_nested few x z);
+        flat = λ z. flat-is ∙ ap not (over_open few x z);
+        scoped = λ z.
             same (sym (quantified_from ∙ rw yes-q))
             (λ f. sym (loose_from f ∙ rw (q.0, q.1, body) (ap₂ (λ (i j : Bool). not i && j) (or_false (eqb l f)) (or_false (loose s h b f)))))
-            (over_scope few x d);
-      })
+            (over_scope few x z);
+      }
 
   -- any other node
-  numbered_other : (k ≡ 14 → ⊥) → (k ≡ 15 → ⊥) → (k ≡ 17 → ⊥)
-      → Numbered s h n (joint (kid_byte t (ltb 0 c.count) c.first) (kid_byte t (ltb 1 c.count) c.second))
+  numbered_other : (k ≡ 14 → ⊥) → (k ≡ 15 → ⊥) → (k ≡ 17 → ⊥) → Numbered s h n (Some (together t c))
   unfolding has
   numbered_other i j m =
       let q = unscoped k i j m w in
-      let x = kids_scope t (quantified s h) (loose s h) n each c before_kids in
-      record {
-        flat = open_flat q.1 _ x.small;
-        scoped = λ d. same (sym (quantified_from ∙ rw (unbound s h n q.1))) (λ f. sym (loose_from f ∙ rw (q.0, q.1))) x;
-      }
+      open_number q.1 (together t c)
+      (same (sym (quantified_from ∙ rw (unbound s h n q.1))) (λ f. sym (loose_from f ∙ rw (q.0, q.1)))
+      (kids_scope t (quantified s h) (loose s h) n each c before_kids))
 
   pub numbered : Lists k l → Numbered s h n (node_scope k l t c)
   numbered few = go (ℕ_discrete k 17) (ℕ_discrete k 14) (ℕ_discrete k 15)
     where
+      one_kid : (k ≡ 14) ⊎ (k ≡ 15) → c ≡ One (num w.w2)
+      one_kid i = only_kid c (num w.w2) (e ∙ (binder k i w).2)
+
       go : Dec (k ≡ 17) → Dec (k ≡ 14) → Dec (k ≡ 15) → Numbered s h n (node_scope k l t c)
       go (yes x) y z = rw (eq-eqb k 17 x) (numbered_element x (few.cites x))
-      go (no x) (yes y) z = rw (ne_eqb k 17 x, eq-eqb k 14 y) (numbered_quantifier (inl y) (few.binds (rw (eq-eqb k 14 y))))
+      go (no x) (yes y) z = rw (ne_eqb k 17 x, one_kid (inl y), eq-eqb k 14 y) (numbered_quantifier (inl y) (few.binds (rw (eq-eqb k 14 y))))
       go (no x) (no y) (yes z) =
-          rw (ne_eqb k 17 x, ne_eqb k 14 y, eq-eqb k 15 z) (numbered_quantifier (inr z) (few.binds (rw (ne_eqb k 14 y, eq-eqb k 15 z))))
-      go (no x) (no y) (no z) = rw (ne_eqb k 17 x, ne_eqb k 14 y, ne_eqb k 15 z) (numbered_other y z x)
+          rw (ne_eqb k 17 x, one_kid (inr z), ne_eqb k 14 y, eq-eqb k 15 z)
+          (numbered_quantifier (inr z) (few.binds (rw (ne_eqb k 14 y, eq-eqb k 15 z))))
+      go (no x) (no y) (no z) = rw (ne_eqb k 17 x, together_is k l t c y z) (numbered_other y z x)
 
 -- ---- a root
 

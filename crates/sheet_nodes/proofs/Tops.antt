@@ -12,7 +12,7 @@ use borrow.Author.Tests.{eq-eqb, ne_eqb}
 use Rattle.tables.specs.Lists.{joined}
 use Rattle.tables.proofs.Lists.{Before}
 use Rattle.signed.specs.Words.{num}
-use Rattle.words.specs.declared.Words.{Words}
+use Rattle.words.specs.declared.Record.{Record}
 use Rattle.layout.specs.declared.Header.{Header}
 use Rattle.node.specs.Rows.{row_of}
 use Rattle.node.proofs.OneKind.{cites_none}
@@ -41,7 +41,7 @@ unfolding top_of greatest
 top_is s h n b = ap (greatest (own_top s h)) (tree_is s h n b) ∙ ap (max (own_top s h n)) (greatest_joined (own_top s h) (tree_of s h) (children_of s h n))
 
 -- what a node of kind number k cites
-pub own_is : (k : ℕ) (w : Words) → cond (eqb k 8) (suc (num w.w1)) 0 ≡ greatest suc ((row_of k).cites w)
+pub own_is : (k : ℕ) (w : Record ℤ) → cond (eqb k 8) (suc (num w.w1)) 0 ≡ greatest suc ((row_of k).cites w)
 unfolding greatest
 own_is k w = go (ℕ_discrete k 8)
   where

@@ -2,10 +2,11 @@
 -- in it. As one number: 0 no elements; 1 + f those of list f; 129 those of several lists; 130 and 131 where there is a quantifier, without and
 -- with elements cited outside.
 -- Assumes nothing.
-use Rattle.std.specs.Prelude.{◌≡◌, Bool, true, false, cond, ◌&&◌, ◌||◌, List, ℕ, suc, ◌≤◌, ◌<◌, ℤ, leb, ltb, eqb, get_or}
+use Rattle.std.specs.Prelude.{◌≡◌, Bool, true, false, cond, ◌&&◌, ◌||◌, List, Option, Some, None, ℕ, suc, ◌≤◌, ◌<◌, ℤ, leb, ltb, eqb, get_or}
 use Rattle.tables.specs.Lists.{any_of}
 use Rattle.layout.specs.declared.Header.{Header}
 use Rattle.node.specs.declared.Kids.{Kids}
+use Rattle.node.specs.declared.Kids.TheVariants.{Zero, One, Two}
 use Rattle.records.specs.Nodes.{tree_of, quantifies, loose}
 
 -- c is the number of a tree with a quantifier where `q` says so, which cites the elements of those lists
@@ -28,22 +29,18 @@ shut c = eqb c 0 || eqb c 130
 unfoldable pub joint : ℕ → ℕ → ℕ
 joint a b = cond (eqb a 0) b (cond (eqb b 0 || eqb a b) a (cond (ltb a 130 && ltb b 130) 129 131))
 
--- of a quantifier over list f, from its body's; 132 where another quantifier stands there
-unfoldable pub over : ℕ → ℕ → ℕ
-over f a = cond (leb 130 a) 132 (cond (eqb a 0 || eqb a (suc f)) 130 131)
-
--- the entry of a child, where there is one
-abbrev pub kid_byte : List ℕ → Bool → ℕ → ℕ
-kid_byte t on j = cond on (get_or t j 0) 0
+-- of a quantifier over list f, from its body's, in which no other quantifier may stand
+unfoldable pub over : ℕ → ℕ → Option ℕ
+over f a = cond (leb 130 a) None (cond (eqb a 0 || eqb a (suc f)) (Some 130) (Some 131))
 
 -- of a node of kind number k with f in word 1, from its own citation, and from its children's
 abbrev pub own_scope : ℕ → ℕ → ℕ
 own_scope k f = cond (eqb k 17) (suc f) 0
 
-abbrev pub kid_scope : ℕ → ℕ → List ℕ → Kids → ℕ
-kid_scope k f t c =
-    cond (eqb k 14 || eqb k 15) (over f (kid_byte t (ltb 0 c.count) c.first))
-    (joint (kid_byte t (ltb 0 c.count) c.first) (kid_byte t (ltb 1 c.count) c.second))
+abbrev pub kid_scope : ℕ → ℕ → List ℕ → Kids → Option ℕ
+kid_scope k f t Zero = Some 0
+kid_scope k f t (One a) = cond (eqb k 14 || eqb k 15) (over f (get_or t a 0)) (Some (get_or t a 0))
+kid_scope k f t (Two a b) = Some (joint (get_or t a 0) (get_or t b 0))
 
-abbrev pub node_scope : ℕ → ℕ → List ℕ → Kids → ℕ
-node_scope k f t c = cond (eqb k 17) (suc f) (kid_scope k f t c)
+abbrev pub node_scope : ℕ → ℕ → List ℕ → Kids → Option ℕ
+node_scope k f t c = cond (eqb k 17) (Some (suc f)) (kid_scope k f t c)

@@ -1,60 +1,60 @@
 -- What the scan's functions ask and answer for one node.
 -- Assumes nothing.
-use Rattle.std.specs.Prelude.{◌≡◌, Bool, true, cond, List, [], ℕ, suc, ◌<◌, ◌≤◌, ℤ, ltb, eqb, length, set}
+use Rattle.std.specs.Prelude.{◌≡◌, Bool, true, ⊤, ◌||◌, List, ℕ, suc, ◌<◌, ℤ, leb, eqb, set}
 use Rattle.signed.specs.Words.{num}
-use Rattle.words.specs.declared.Words.{Words}
+use Rattle.words.specs.declared.Record.{Record}
 use Rattle.layout.specs.declared.Header.{Header}
 use Rattle.layout.specs.Sized.{Sized}
 use Rattle.item.specs.declared.Item.{Item}
 use Rattle.item.specs.Items.{none, align}
 use Rattle.item.specs.Inner.{Small}
-use Rattle.node.specs.declared.Named.{Named}
 use Rattle.node.specs.declared.Given.{Given}
 use Rattle.node.specs.declared.Kids.{Kids}
+use Rattle.node.specs.declared.Kids.TheVariants.{Zero, One, Two}
 use Rattle.node.specs.Rows.{row_of}
-use Rattle.node.specs.Judged.{kids, judged}
+use Rattle.node.specs.Judged.{kids}
 use Rattle.records.specs.Facts.{good_fact}
 use Rattle.records.specs.Nodes.{node_words, named_fact, good_node}
-use Rattle.sheet_nodes.specs.Scopes.{own_scope}
+use Rattle.sheet_nodes.specs.declared.Ranges.{Ranges}
+use Rattle.sheet_nodes.specs.declared.Trees.{Trees}
 use Rattle.sheet_nodes.specs.Arrays.{item_at, Filled}
 
+-- the kinds that name a fact or a list
+abbrev pub names_one : ℕ → Bool
+names_one k = eqb k 3 || leb 14 k
+
 -- what node n is worked out from, its children being in the arrays
-abbrev pub kid_item : List ℤ → List ℤ → List ℕ → Bool → ℕ → Item
-kid_item lows highs sorts on j = cond on (item_at lows highs sorts j) none
+abbrev pub first_kid : Kids → Ranges → Trees → Item
+first_kid Zero v t = none
+first_kid (One a) v t = item_at v t a
+first_kid (Two a b) v t = item_at v t a
 
-abbrev pub first_kid : Kids → List ℤ → List ℤ → List ℕ → Item
-first_kid c lows highs sorts = kid_item lows highs sorts (ltb 0 c.count) c.first
+abbrev pub second_kid : Kids → Ranges → Trees → Item
+second_kid Zero v t = none
+second_kid (One a) v t = none
+second_kid (Two a b) v t = item_at v t b
 
-abbrev pub second_kid : Kids → List ℤ → List ℤ → List ℕ → Item
-second_kid c lows highs sorts = kid_item lows highs sorts (ltb 1 c.count) c.second
-
-abbrev pub given_by : List ℤ → Header → Words → Kids → List ℤ → List ℤ → List ℕ → Given
-given_by s h w c lows highs sorts =
+abbrev pub given_by : List ℤ → Header → Record ℤ → Kids → Ranges → Trees → Given
+given_by s h w c v t =
     record {
       words = w;
       facts = h.facts;
       rules = h.rules;
       fact = named_fact s h.facts (num w.w1);
-      x = align (first_kid c lows highs sorts) (second_kid c lows highs sorts);
-      y = align (second_kid c lows highs sorts) (first_kid c lows highs sorts);
+      x = align (first_kid c v t) (second_kid c v t);
+      y = align (second_kid c v t) (first_kid c v t);
     }
 
 -- what a node without children is worked out from
-abbrev pub leaf_with : Header → Words → Named → Given
-leaf_with h w f = record { words = w; facts = h.facts; rules = h.rules; fact = f; x = none; y = none }
-
-abbrev pub leaf_given : List ℤ → Header → Words → Given
-leaf_given s h w = leaf_with h w (named_fact s h.facts (num w.w1))
+abbrev pub leaf_given : List ℤ → Header → Record ℤ → Given
+leaf_given s h w =
+    record { words = w; facts = h.facts; rules = h.rules; fact = named_fact s h.facts (num w.w1); x = none; y = none }
 
 -- there are m entries, and the children's are among them
-pub record Inside (c : Kids) (m : ℕ) : Type 0 where
-  pub first : ltb 0 c.count ≡ true → c.first < m
-  pub second : ltb 1 c.count ≡ true → c.second < m
-
-pub record Long (m : ℕ) (lows highs : List ℤ) (sorts : List ℕ) : Type 0 where
-  pub low : length lows ≡ m
-  pub high : length highs ≡ m
-  pub sort : length sorts ≡ m
+abbrev pub Inside : Kids → ℕ → Type 0
+Inside Zero m = ⊤
+Inside (One a) m = a < m
+Inside (Two a b) m = (a < m) × (b < m)
 
 -- a sized sheet with good facts
 pub record Begun (s : List ℤ) (h : Header) : Type 0 where
@@ -62,54 +62,41 @@ pub record Begun (s : List ℤ) (h : Header) : Type 0 where
   pub facts : (j : ℕ) → j < h.facts → good_fact s j ≡ true
 
 -- what the judgement of a node asks
-pub record Judgeable (s : List ℤ) (h : Header) (w : Words) (c : Kids) (lows highs : List ℤ) (sorts : List ℕ) : Type 0 where
+pub record Judgeable (s : List ℤ) (h : Header) (w : Record ℤ) (c : Kids) (v : Ranges) (t : Trees) : Type 0 where
   pub begun : Begun s h
-  pub long : Long 1024 lows highs sorts
   pub inside : Inside c 1024
-  pub first : Small (first_kid c lows highs sorts)
-  pub second : Small (second_kid c lows highs sorts)
+  pub first : Small (first_kid c v t)
+  pub second : Small (second_kid c v t)
 
--- what the arrays take of a node
-pub record Storable (n : ℕ) (x : Item) (lows highs : List ℤ) (sorts : List ℕ) : Type 0 where
-  pub long : Long 1024 lows highs sorts
-  pub room : n < 1024
-  pub small : Small x
-  pub few : x.sort ≤ 261
+-- the arrays with node n's range, or its type and what its tree cites; with other flags, or those of its children set
+abbrev pub with_item : ℕ → Item → Ranges → Ranges
+with_item n x v = record { lows = set v.lows n x.low; highs = set v.highs n x.high }
 
-pub record Stored (n : ℕ) (x : Item) (lows highs : List ℤ) (sorts : List ℕ) (lows' highs' : List ℤ) (sorts' : List ℕ) : Type 0 where
-  pub low : lows' ≡ set lows n x.low
-  pub high : highs' ≡ set highs n x.high
-  pub sort : sorts' ≡ set sorts n x.sort
+abbrev pub with_tree : ℕ → ℕ → ℕ → ℕ → Trees → Trees
+with_tree n sort top scope t =
+    record { sorts = set t.sorts n sort; tops = set t.tops n top; scopes = set t.scopes n scope; named = t.named }
+
+abbrev pub with_flags : List Bool → Trees → Trees
+with_flags named t = record { sorts = t.sorts; tops = t.tops; scopes = t.scopes; named = named }
+
+abbrev pub name_kids : Kids → List Bool → List Bool
+name_kids Zero named = named
+name_kids (One a) named = set named a true
+name_kids (Two a b) named = set (set named a true) b true
 
 -- the scan stands at node n
-pub record Turn (s : List ℤ) (h : Header) (n : ℕ) (lows highs : List ℤ) (sorts tops scopes : List ℕ) (named : List Bool) : Type 0 where
+pub record Turn (s : List ℤ) (h : Header) (n : ℕ) (v : Ranges) (t : Trees) : Type 0 where
   pub begun : Begun s h
   pub exists : n < h.nodes
-  pub filled : Filled s h n lows highs sorts tops scopes named
+  pub filled : Filled s h n v t
 
 -- the words, the kind and the children of node n
-pub record Placed (s : List ℤ) (h : Header) (n : ℕ) (w : Words) (k : ℕ) (c : Kids) : Type 0 where
+pub record Placed (s : List ℤ) (h : Header) (n : ℕ) (w : Record ℤ) (k : ℕ) (c : Kids) : Type 0 where
   pub words : w ≡ node_words s h n
   pub kind : k ≡ num w.w0
   pub children : kids c ≡ (row_of k).children w
 
 -- and has judged it
-pub record Took (s : List ℤ) (h : Header) (n : ℕ) (good : Bool) (lows highs : List ℤ) (sorts tops scopes : List ℕ) (named : List Bool) : Type 0 where
+pub record Took (s : List ℤ) (h : Header) (n : ℕ) (good : Bool) (v : Ranges) (t : Trees) : Type 0 where
   pub judged : good ≡ good_node s h n
-  pub filled : good ≡ true → Filled s h (suc n) lows highs sorts tops scopes named
-
--- what a node without children asks
-pub record LeafAt (s : List ℤ) (h : Header) (n : ℕ) (w : Words) (k : ℕ) (lows highs : List ℤ) (sorts tops scopes : List ℕ) : Type 0 where
-  pub begun : Begun s h
-  pub leaf : (row_of k).children w ≡ []
-  pub long : Long 1024 lows highs sorts
-  pub tops_long : length tops ≡ 1024
-  pub scopes_long : length scopes ≡ 1024
-  pub room : n < 1024
-
--- it is judged, and where it is good it is in the arrays
-pub record TookLeaf (s : List ℤ) (h : Header) (n : ℕ) (w : Words) (k : ℕ) (good : Bool) (lows highs : List ℤ) (sorts tops scopes : List ℕ) (lows' highs' : List ℤ) (sorts' tops' scopes' : List ℕ) : Type 0 where
-  pub answer : good ≡ (judged (row_of k) (leaf_given s h w)).good
-  pub stored : good ≡ true → Stored n (judged (row_of k) (leaf_given s h w)).item lows highs sorts lows' highs' sorts'
-  pub top : good ≡ true → tops' ≡ set tops n (cond (eqb k 8) (suc (num w.w1)) 0)
-  pub scope : good ≡ true → scopes' ≡ set scopes n (own_scope k (num w.w1))
+  pub filled : good ≡ true → Filled s h (suc n) v t

@@ -1,175 +1,52 @@
-// The scan of the nodes, in order, with arrays for what later records ask of them: value ranges, types, of each node's tree the greatest rule
-// and the elements that it cites, and which nodes have been named.
+// The scan of the nodes, in order. Kept are what later records ask of a node: its type, of the tree under it the greatest rule and the elements that
+// it cites, and whether it has been named; and, for this scan alone, value ranges.
 #![tactic(auto)]
 
-ghost use Rattle.std.specs.Prelude.{◌≡◌, true, false, cond, ◌||◌, [], ℕ, suc, ◌<◌, ◌≤◌, max, ltb, eqb, length, get_or, set};
-ghost use Rattle.tables.specs.Scan.{first_fail};
-ghost use Rattle.tables.specs.Inner.{marked};
+ghost use Rattle.std.specs.Prelude.{◌≡◌, true, false, cond, ◌||◌, [], ℕ, suc, ◌<◌, ◌≤◌, max, ltb, eqb, length, get_or, replicate, OnOk};
 ghost use Rattle.signed.specs.Words.{num as word_number};
+ghost use Rattle.tables.specs.Inner.{marked};
 ghost use Rattle.layout.specs.Header.{first_node};
+ghost use Rattle.item.specs.Inner.{Small};
+ghost use Rattle.node.specs.declared.Kids.TheVariants.{Zero};
+ghost use Rattle.node.specs.Kinds.{kind_number};
 ghost use Rattle.node.specs.Rows.{row_of};
 ghost use Rattle.node.specs.Judged.{kids, judged, judged_parent};
 ghost use Rattle.records.specs.Nodes.{named_fact, good_children, good_node};
-ghost use Rattle.sheet_nodes.specs.Scopes.{shut, joint, over, kid_byte, own_scope, kid_scope};
-ghost use Rattle.sheet_nodes.specs.Arrays.{greatest, Empty, Filled};
-ghost use Rattle.sheet_nodes.specs.Steps.{kid_item, given_by, leaf_with, leaf_given, Inside, Long, Begun, Judgeable, Storable, Stored, Turn, Placed, Took, LeafAt, TookLeaf};
+ghost use Rattle.records.specs.Scans.{scanned};
+ghost use Rattle.sheet_nodes.specs.Scopes.{shut, joint, over, own_scope, kid_scope};
+ghost use Rattle.sheet_nodes.specs.Arrays.{item_at, greatest, Filled};
+ghost use Rattle.sheet_nodes.specs.Steps.{names_one, first_kid, second_kid, given_by, leaf_given, Inside, Begun, Judgeable, with_item, with_tree, with_flags, name_kids, Turn, Placed, Took};
 
-use item::{Item, align, span};
-use layout::Header;
-use node::{Given, Judgement, Kids, Named, children, judge_leaf, judge_parent};
+use item::Item;
+use layout::{Header, Sheet};
+use node::{Given, Kids, Kind, Named, children, judge_leaf, judge_parent};
 use records::{named_fact, no_fact};
 use signed::num;
 use tables::{flag, mark};
-use words::{Words, words_at};
+use words::{Record, words_at};
 
 // The number of a tree, as specs/Scopes.antt has it: elements of several lists are cited; there is a quantifier, and no elements are cited
-// outside, or some are. A quantifier inside another has a number of its own.
+// outside, or some are. It stays a number, because it is one byte of an array that is cleared for every sheet, and the laws count in it.
 const SEVERAL: usize = 129;
 
 const QUANTIFIER: usize = 130;
 
 const OUTSIDE: usize = 131;
 
-const NESTED: usize = 132;
-
-// Whether the children come before node n, have not been named, and are not the same node twice.
-fn linked(named: &[bool], n: usize, c: Kids) -> bool
-    ensures { result ≡ good_children n (λ a. get_or named.now a false) (kids c) }
-{
-    let a = c.first;
-    let b = c.second;
-    let first = (a < n) & !flag(named, a);
-    let second = (b < n) & !flag(named, b);
-    ((c.count < 1) | first) & ((c.count < 2) | (second & !(b == a)))
+// The value ranges of the nodes. Apart from the rest, because this scan alone reads them: its caller lets go of them.
+#[derive(Drop)]
+pub struct Ranges {
+    pub lows: [i32; Header::NODES],
+    pub highs: [i32; Header::NODES],
 }
 
-// The type and range of child j, where there is such a child.
-fn kid_item(lows: &[i32], highs: &[i32], sorts: &[u16], on: bool, j: usize) -> Item
-    requires { Long 1024 lows.now highs.now sorts.now × (on ≡ true → j < 1024) }
-    ensures { result ≡ kid_item lows.now highs.now sorts.now on j }
-{
-    if on {
-        span(sorts[j] as usize, lows[j] as i64, highs[j] as i64)
-    } else {
-        span(0, 0, 0)
-    }
-}
-
-fn leaf_given(h: Header, w: Words, fact: Named) -> Given
-    ensures { result ≡ leaf_with h w fact }
-{
-    Given {
-        words: w,
-        facts: h.facts,
-        rules: h.rules,
-        fact,
-        x: span(0, 0, 0),
-        y: span(0, 0, 0),
-    }
-}
-
-// Judges a node of kind number k that has no children. The fact is looked up where the kind names one; such a kind is told by a literal, for
-// speed.
-fn judge_single(s: &[i64], h: Header, w: Words, k: usize) -> Judgement
-    requires { Begun s.now h × ((row_of k).children w ≡ []) }
-    ensures { result ≡ judged (row_of k) (leaf_given s.now h w) }
-{
-    let f = num(w.w1);
-    match k {
-        3 => judge_leaf(3, leaf_given(h, w, named_fact(s, h.facts, f))),
-        16 => judge_leaf(16, leaf_given(h, w, named_fact(s, h.facts, f))),
-        17 => judge_leaf(17, leaf_given(h, w, named_fact(s, h.facts, f))),
-        _ => judge_leaf(k, leaf_given(h, w, no_fact())),
-    }
-}
-
-// The list that a node of kind number k with children names; it is looked up where the kind names one.
-fn list_of(s: &[i64], h: Header, k: usize, f: usize) -> Named
-    requires { Begun s.now h }
-    ensures { 14 ≤ k → result ≡ named_fact s.now h.facts f }
-{
-    if k < 14 {
-        no_fact()
-    } else {
-        named_fact(s, h.facts, f)
-    }
-}
-
-// Judges a node of kind number k whose children are in the arrays.
-fn judge_joint(
-    s: &[i64],
-    h: Header,
-    w: Words,
-    k: usize,
-    c: Kids,
-    lows: &[i32],
-    highs: &[i32],
-    sorts: &[u16],
-) -> Judgement
-    requires { Judgeable s.now h w c lows.now highs.now sorts.now × ((row_of k).children w ≡ [] → ⊥) }
-    ensures { result ≡ judged_parent (row_of k) (given_by s.now h w c lows.now highs.now sorts.now) }
-{
-    let x = kid_item(lows, highs, sorts, 0 < c.count, c.first);
-    let y = kid_item(lows, highs, sorts, 1 < c.count, c.second);
-    let fact = list_of(s, h, k, num(w.w1));
-    judge_parent(
-        k,
-        Given {
-            words: w,
-            facts: h.facts,
-            rules: h.rules,
-            fact,
-            x: align(x, y),
-            y: align(y, x),
-        },
-    )
-}
-
-fn greater(x: usize, y: usize) -> usize
-    ensures { result ≡ max x y }
-{
-    if x < y { y } else { x }
-}
-
-// One more than the rule that a node of kind number k cites, 0 where it cites none.
-fn own_top(k: usize, rule: usize) -> usize
-    requires { k ≡ 8 → rule < 128 }
-    ensures { result ≡ cond (eqb k 8) (suc rule) 0 }
-{
-    match k {
-        0..=7 => 0,
-        8 => rule + 1,
-        9.. => 0,
-    }
-}
-
-// One more than the list whose element a node of kind number k cites, 0 where it cites none.
-fn own_scope(k: usize, list: usize) -> usize
-    requires { k ≡ 17 → list < 128 }
-    ensures { result ≡ own_scope k list }
-{
-    match k {
-        0..=16 => 0,
-        17 => list + 1,
-        18.. => 0,
-    }
-}
-
-fn kid_byte(t: &[u8], on: bool, j: usize) -> usize
-    requires { (length t.now ≡ 1024) × (on ≡ true → j < 1024) }
-    ensures { result ≡ kid_byte t.now on j }
-{
-    if on { t[j] as usize } else { 0 }
-}
-
-// The greatest rule of the trees of a node's children, as `own_top` has it.
-fn top_of(tops: &[u8], c: Kids) -> usize
-    requires { (length tops.now ≡ 1024) × Inside c 1024 }
-    ensures { result ≡ greatest (λ j. get_or tops.now j 0) (kids c) }
-{
-    let x = kid_byte(tops, 0 < c.count, c.first);
-    let y = kid_byte(tops, 1 < c.count, c.second);
-    greater(x, y)
+// What later records ask of the nodes: types, the greatest rule and the elements that the tree under a node cites, and which nodes have been named.
+#[derive(Drop)]
+pub struct Trees {
+    pub sorts: [u16; Header::NODES],
+    pub tops: [u8; Header::NODES],
+    pub scopes: [u8; Header::NODES],
+    pub named: [bool; Header::NODES],
 }
 
 // Whether a tree cites no elements outside.
@@ -180,6 +57,7 @@ pub fn is_shut(scope: usize) -> bool
 }
 
 // The number of two trees together.
+#[tactic(auto, unfolding(crate::specs::Scopes::joint))]
 fn join_scopes(a: usize, b: usize) -> usize
     ensures { result ≡ joint a b }
 {
@@ -196,176 +74,306 @@ fn join_scopes(a: usize, b: usize) -> usize
     }
 }
 
-// The number of a quantifier over a list, from its body's.
-fn bind_scope(list: usize, body: usize) -> usize
+// The number of a quantifier over a list, from its body's, in which no quantifier may stand.
+#[tactic(auto, unfolding(crate::specs::Scopes::over))]
+fn bind_scope(list: usize, body: usize) -> Option<usize>
     requires { list < 128 }
     ensures { result ≡ over list body }
 {
     if QUANTIFIER <= body {
-        return NESTED;
+        return None;
     }
     if (body == 0) | (body == list + 1) {
-        QUANTIFIER
+        Some(QUANTIFIER)
     } else {
-        OUTSIDE
+        Some(OUTSIDE)
     }
 }
 
-// The number of a node of kind number k, with `list` in word 1, from its children's.
-fn scope_of(scopes: &[u8], k: usize, list: usize, c: Kids) -> usize
-    requires { (length scopes.now ≡ 1024) × Inside c 1024 × ((eqb k 14 || eqb k 15) ≡ true → list < 128) }
-    ensures { result ≡ kid_scope k list scopes.now c }
+// One more than the rule that a node cites, 0 where it cites none.
+fn own_top(k: Kind, rule: usize) -> usize
+    requires { kind_number k ≡ 8 → rule < 128 }
+    ensures { result ≡ cond (eqb (kind_number k) 8) (suc rule) 0 }
 {
-    let x = kid_byte(scopes, 0 < c.count, c.first);
-    let y = kid_byte(scopes, 1 < c.count, c.second);
-    if (k == 14) | (k == 15) {
-        bind_scope(list, x)
-    } else {
-        join_scopes(x, y)
+    match k {
+        Kind::Present => rule + 1,
+        _ => 0,
     }
 }
 
-fn keep_item(lows: &mut [i32], highs: &mut [i32], sorts: &mut [u16], n: usize, x: Item)
-    requires { Storable n x lows.old highs.old sorts.old }
-    ensures { Stored n x lows.old highs.old sorts.old lows.new highs.new sorts.new }
+// One more than the list whose element a node cites, 0 where it cites none.
+fn own_scope(k: Kind, list: usize) -> usize
+    requires { kind_number k ≡ 17 → list < 128 }
+    ensures { result ≡ own_scope (kind_number k) list }
 {
-    let low = x.low;
-    let high = x.high;
-    let sort = x.sort;
-    lows[n] = low as i32;
-    highs[n] = high as i32;
-    sorts[n] = sort as u16;
+    match k {
+        Kind::Element => list + 1,
+        _ => 0,
+    }
 }
 
-fn keep_byte(t: &mut [u8], n: usize, v: usize)
-    requires { (n < length t.old) × (v < 256) }
-    ensures { t.new ≡ set t.old n v }
-{
-    t[n] = v as u8;
+impl Ranges {
+    pub fn new() -> Ranges {
+        Ranges {
+            lows: [0; Header::NODES],
+            highs: [0; Header::NODES],
+        }
+    }
+
+    fn keep(&mut self, n: usize, x: Item)
+        requires { (n < 1024) × Small x }
+        ensures { self.new ≡ with_item n x self.old }
+    {
+        self.lows[n] = x.low as i32;
+        self.highs[n] = x.high as i32;
+    }
 }
 
-// Marks the children of a node as named.
-fn name_children(named: &mut [bool], c: Kids)
-    ensures { named.new ≡ marked (ltb 1 c.count) c.second (marked (ltb 0 c.count) c.first named.old) }
+impl Trees {
+    pub fn new() -> Trees
+        ensures { result.named ≡ replicate 1024 false }
+    {
+        Trees {
+            sorts: [0; Header::NODES],
+            tops: [0; Header::NODES],
+            scopes: [0; Header::NODES],
+            named: [false; Header::NODES],
+        }
+    }
+
+    // Node a has been named, where `on` says so and there is such a node.
+    pub fn mark(&mut self, on: bool, a: usize)
+        ensures { self.new ≡ with_flags (marked on a self.old.named) self.old }
+    {
+        mark(&mut self.named, on, a);
+    }
+
+    // Whether the children come before node n, have not been named, and are not the same node twice.
+    fn links(&self, n: usize, c: Kids) -> bool
+        ensures { result ≡ good_children n (λ a. get_or self.now.named a false) (kids c) }
+    {
+        match c {
+            Kids::Zero => true,
+            Kids::One(a) => (a < n) & !flag(&self.named, a),
+            Kids::Two(a, b) => {
+                (a < n) & !flag(&self.named, a) & (b < n) & !flag(&self.named, b) & (b != a)
+            }
+        }
+    }
+
+    // The type and range of node j.
+    fn item(&self, ranges: &Ranges, j: usize) -> Item
+        requires { j < 1024 }
+        ensures { result ≡ item_at ranges.now self.now j }
+    {
+        Item {
+            sort: self.sorts[j] as usize,
+            low: ranges.lows[j] as i64,
+            high: ranges.highs[j] as i64,
+        }
+    }
+
+    // Those of a node's children, `Item::NONE` where there is none.
+    fn kid_items(&self, ranges: &Ranges, c: Kids) -> (Item, Item)
+        requires { Inside c 1024 }
+        ensures first { result.0 ≡ first_kid c ranges.now self.now }
+        ensures second { result.1 ≡ second_kid c ranges.now self.now }
+    {
+        match c {
+            Kids::Zero => (Item::NONE, Item::NONE),
+            Kids::One(a) => (self.item(ranges, a), Item::NONE),
+            Kids::Two(a, b) => (self.item(ranges, a), self.item(ranges, b)),
+        }
+    }
+
+    // The greatest rule of the trees of a node's children, as `own_top` has it.
+    #[tactic(auto, unfolding(crate::specs::Arrays::greatest))]
+    fn top_of(&self, c: Kids) -> usize
+        requires { Inside c 1024 }
+        ensures { result ≡ greatest (λ j. get_or self.now.tops j 0) (kids c) }
+    {
+        match c {
+            Kids::Zero => 0,
+            Kids::One(a) => self.tops[a] as usize,
+            Kids::Two(a, b) => usize::max(self.tops[a] as usize, self.tops[b] as usize),
+        }
+    }
+
+    // The number of a node of kind k, with `list` in word 1, from its children's; none where a quantifier stands inside another.
+    fn scope_of(&self, k: Kind, list: usize, c: Kids) -> Option<usize>
+        requires { Inside c 1024 × ((eqb (kind_number k) 14 || eqb (kind_number k) 15) ≡ true → list < 128) }
+        ensures { result ≡ kid_scope (kind_number k) list self.now.scopes c }
+    {
+        match c {
+            Kids::Zero => Some(0),
+            Kids::One(a) => {
+                let body = self.scopes[a] as usize;
+                match k {
+                    Kind::ForAll | Kind::Exists => bind_scope(list, body),
+                    _ => Some(body),
+                }
+            }
+            Kids::Two(a, b) => Some(join_scopes(self.scopes[a] as usize, self.scopes[b] as usize)),
+        }
+    }
+
+    fn keep(&mut self, n: usize, sort: usize, top: usize, scope: usize)
+        requires { (n < 1024) × (sort ≤ 261) × (top < 256) × (scope < 256) }
+        ensures { self.new ≡ with_tree n sort top scope self.old }
+    {
+        self.sorts[n] = sort as u16;
+        self.tops[n] = top as u8;
+        self.scopes[n] = scope as u8;
+    }
+
+    // Marks the children of a node as named.
+    fn name(&mut self, c: Kids)
+        requires { Inside c 1024 }
+        ensures { self.new ≡ with_flags (name_kids c self.old.named) self.old }
+    {
+        match c {
+            Kids::Zero => {}
+            Kids::One(a) => self.named[a] = true,
+            Kids::Two(a, b) => {
+                self.named[a] = true;
+                self.named[b] = true;
+            }
+        }
+    }
+}
+
+// The fact that a node of kind k names; it is looked up where the kind names one.
+fn fact_of(s: &Sheet, k: Kind, f: usize) -> Named
+    requires { Begun s.now.words.now s.now.header }
+    ensures { names_one (kind_number k) ≡ true → result ≡ named_fact s.now.words.now s.now.header.facts f }
 {
-    mark(named, 0 < c.count, c.first);
-    mark(named, 1 < c.count, c.second);
+    match k {
+        Kind::Fact | Kind::ForAll | Kind::Exists | Kind::Length | Kind::Element => {
+            named_fact(s.words, s.header.facts, f)
+        }
+        _ => no_fact(),
+    }
+}
+
+// Judges a node that has no children.
+fn judge_single(s: &Sheet, w: Record<i64>, k: Kind) -> Option<Item>
+    requires { Begun s.now.words.now s.now.header × ((row_of (kind_number k)).children w ≡ []) }
+    ensures { result ≡ judged (row_of (kind_number k)) (leaf_given s.now.words.now s.now.header w) }
+{
+    let fact = fact_of(s, k, num(w.w1));
+    judge_leaf(
+        k,
+        Given {
+            words: w,
+            facts: s.header.facts,
+            rules: s.header.rules,
+            fact,
+            x: Item::NONE,
+            y: Item::NONE,
+        },
+    )
+}
+
+// Judges a node whose children have been judged.
+fn judge_joint(
+    s: &Sheet,
+    w: Record<i64>,
+    k: Kind,
+    c: Kids,
+    ranges: &Ranges,
+    trees: &Trees,
+) -> Option<Item>
+    requires { Judgeable s.now.words.now s.now.header w c ranges.now trees.now × ((row_of (kind_number k)).children w ≡ [] → ⊥) }
+    ensures { result ≡ judged_parent (row_of (kind_number k)) (given_by s.now.words.now s.now.header w c ranges.now trees.now) }
+{
+    let (x, y) = trees.kid_items(ranges, c);
+    let fact = fact_of(s, k, num(w.w1));
+    judge_parent(
+        k,
+        Given {
+            words: w,
+            facts: s.header.facts,
+            rules: s.header.rules,
+            fact,
+            x: x.align(y),
+            y: y.align(x),
+        },
+    )
 }
 
 // Judges node n, which has no children; where it is good the arrays take it.
 fn take_leaf(
-    s: &[i64],
-    h: Header,
+    s: &Sheet,
     n: usize,
-    w: Words,
-    k: usize,
-    lows: &mut [i32],
-    highs: &mut [i32],
-    sorts: &mut [u16],
-    tops: &mut [u8],
-    scopes: &mut [u8],
+    w: Record<i64>,
+    k: Kind,
+    ranges: &mut Ranges,
+    trees: &mut Trees,
 ) -> bool
-    requires { LeafAt s.now h n w k lows.old highs.old sorts.old tops.old scopes.old }
-    ensures { TookLeaf s.now h n w k result lows.old highs.old sorts.old tops.old scopes.old lows.new highs.new sorts.new tops.new scopes.new }
+    requires { Turn s.now.words.now s.now.header n ranges.old trees.old × Placed s.now.words.now s.now.header n w (kind_number k) Zero }
+    ensures { Took s.now.words.now s.now.header n result ranges.new trees.new }
 {
-    let found = judge_single(s, h, w, k);
-    if !found.good {
+    let Some(x) = judge_single(s, w, k) else {
         return false;
-    }
-    let x = found.item;
+    };
     let f = num(w.w1);
-    let top = own_top(k, f);
-    let scope = own_scope(k, f);
-    keep_item(lows, highs, sorts, n, x);
-    keep_byte(tops, n, top);
-    keep_byte(scopes, n, scope);
+    ranges.keep(n, x);
+    trees.keep(n, x.sort, own_top(k, f), own_scope(k, f));
     true
 }
 
 // Judges node n, which has children; where it is good the arrays take it.
 fn take_parent(
-    s: &[i64],
-    h: Header,
+    s: &Sheet,
     n: usize,
-    w: Words,
-    k: usize,
+    w: Record<i64>,
+    k: Kind,
     c: Kids,
-    lows: &mut [i32],
-    highs: &mut [i32],
-    sorts: &mut [u16],
-    tops: &mut [u8],
-    scopes: &mut [u8],
-    named: &mut [bool],
+    ranges: &mut Ranges,
+    trees: &mut Trees,
 ) -> bool
-    requires turn { Turn s.now h n lows.old highs.old sorts.old tops.old scopes.old named.old × Placed s.now h n w k c }
-    requires fact { c.count ≡ 0 → ⊥ }
-    ensures { Took s.now h n result lows.new highs.new sorts.new tops.new scopes.new named.new }
+    requires { Turn s.now.words.now s.now.header n ranges.old trees.old × Placed s.now.words.now s.now.header n w (kind_number k) c × (c ≡ Zero → ⊥) }
+    ensures { Took s.now.words.now s.now.header n result ranges.new trees.new }
 {
-    if !linked(named, n, c) {
+    if !trees.links(n, c) {
         return false;
     }
-    let found = judge_joint(s, h, w, k, c, lows, highs, sorts);
-    if !found.good {
+    let Some(x) = judge_joint(s, w, k, c, ranges, trees) else {
         return false;
-    }
-    let scope = scope_of(scopes, k, num(w.w1), c);
-    if scope == NESTED {
+    };
+    let Some(scope) = trees.scope_of(k, num(w.w1), c) else {
         return false;
-    }
-    let x = found.item;
-    let top = top_of(tops, c);
-    keep_item(lows, highs, sorts, n, x);
-    keep_byte(tops, n, top);
-    keep_byte(scopes, n, scope);
-    name_children(named, c);
+    };
+    ranges.keep(n, x);
+    trees.keep(n, x.sort, trees.top_of(c), scope);
+    trees.name(c);
     true
 }
 
-// Judges node n; where it is good the arrays take it.
-fn take_node(
-    s: &[i64],
-    h: Header,
-    n: usize,
-    lows: &mut [i32],
-    highs: &mut [i32],
-    sorts: &mut [u16],
-    tops: &mut [u8],
-    scopes: &mut [u8],
-    named: &mut [bool],
-) -> bool
-    requires { Turn s.now h n lows.old highs.old sorts.old tops.old scopes.old named.old }
-    ensures { Took s.now h n result lows.new highs.new sorts.new tops.new scopes.new named.new }
+// Judges node n; where it is good the arrays take it. A node without children is judged apart, for speed: half of a sheet's nodes have none.
+fn take_node(s: &Sheet, n: usize, ranges: &mut Ranges, trees: &mut Trees) -> bool
+    requires { Turn s.now.words.now s.now.header n ranges.old trees.old }
+    ensures { Took s.now.words.now s.now.header n result ranges.new trees.new }
 {
-    let w = words_at(s, h.facts + n);
-    let k = num(w.w0);
-    let c = children(k, w);
-    if c.count == 0 {
-        return take_leaf(s, h, n, w, k, lows, highs, sorts, tops, scopes);
+    let w = words_at(s.words, s.header.facts + n);
+    let Ok(k) = Kind::try_from(num(w.w0)) else {
+        return false;
+    };
+    match children(k, w) {
+        Kids::Zero => take_leaf(s, n, w, k, ranges, trees),
+        c => take_parent(s, n, w, k, c, ranges, trees),
     }
-    take_parent(s, h, n, w, k, c, lows, highs, sorts, tops, scopes, named)
 }
 
-pub fn check_nodes(
-    s: &[i64],
-    h: Header,
-    lows: &mut [i32],
-    highs: &mut [i32],
-    sorts: &mut [u16],
-    tops: &mut [u8],
-    scopes: &mut [u8],
-    named: &mut [bool],
-) -> usize
-    requires { Begun s.now h × Empty lows.old highs.old sorts.old tops.old scopes.old named.old }
-    ensures value { result ≡ first_fail (good_node s.now h) 0 h.nodes }
-    ensures filled { h.nodes ≤ result → Filled s.now h h.nodes lows.new highs.new sorts.new tops.new scopes.new named.new }
+pub fn check_nodes(s: &Sheet, ranges: &mut Ranges, trees: &mut Trees) -> Result<(), usize>
+    requires { Begun s.now.words.now s.now.header × (trees.old.named ≡ replicate 1024 false) }
+    ensures value { result ≡ scanned (first_node s.now.header) (good_node s.now.words.now s.now.header) s.now.header.nodes }
+    ensures filled { OnOk result (Filled s.now.words.now s.now.header s.now.header.nodes ranges.new trees.new) }
 {
-    let size = h.nodes;
-    let mut n = 0;
-    while n < size {
-        if !take_node(s, h, n, lows, highs, sorts, tops, scopes, named) {
-            return n;
+    for n in 0..s.header.nodes {
+        if !take_node(s, n, ranges, trees) {
+            return Err(s.header.facts + n);
         }
-        n += 1;
     }
-    n
+    Ok(())
 }

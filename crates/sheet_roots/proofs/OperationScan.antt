@@ -1,6 +1,6 @@
 -- The scan of the operations.
 -- Assumes nothing.
-use mathlib.Core.Path.{◌≡◌, refl, sym, subst, ap, ◌∙◌}
+use mathlib.Core.Path.{◌≡◌, refl, sym, ap, ◌∙◌}
 use mathlib.Core.Bool.{Bool, true, false, ◌&&◌, ◌||◌}
 use mathlib.Core.List.{List}
 use Prim.Native.Nat.{ℕ, ◌+◌, ◌≤◌, ◌<◌}
@@ -8,11 +8,10 @@ use lib.IntN.{ℤ}
 use lib.Dec.{leb, eqb}
 use native.Mathlib.Omega.{arith}
 use Rattle.layout.proofs.Groups.{covers_effects}
-use Rattle.tables.specs.Scan.{any_below, sum_below, first_fail}
+use Rattle.tables.specs.Scan.{any_below, sum_below}
 use Rattle.tables.specs.Inner.{marked}
 use Rattle.tables.proofs.Bools.{or_assoc}
 use Rattle.tables.proofs.Scans.{any_more, any_zero, extend_one, sum_zero, sum_more, sum_mono}
-use Rattle.tables.proofs.Scanned.{fail_at, fail_none}
 use Rattle.tables.proofs.Entries.{or_false}
 use Rattle.words.specs.declared.Record.{Record}
 use Rattle.words.specs.Record.{record_at, unused}
@@ -22,22 +21,22 @@ use Rattle.layout.specs.Groups.{effect_count, good_groups}
 use Rattle.layout.specs.Tables.{operation}
 use Rattle.records.specs.Names.{named_by_rules, named_by_operations}
 use Rattle.records.specs.Operations.{good_mask, good_operation}
-use Rattle.sheet_roots.specs.Roots.{Typed, Names, root_test}
+use Rattle.sheet_nodes.specs.declared.Trees.{Trees}
+use Rattle.sheet_nodes.specs.Steps.{with_flags}
+use Rattle.sheet_roots.specs.Roots.{Known, root_test}
 use Rattle.sheet_roots.proofs.Roots.{root_is, name_more, renamed}
 
-pub record Turn (s : List ℤ) (h : Header) (room k sum : ℕ) (named : List Bool) : Type 0 where
-  pub here : k ≤ h.operations
+pub record Turn (s : List ℤ) (h : Header) (k sum : ℕ) (t : Trees) : Type 0 where
   pub is : sum ≡ sum_below (effect_count s h) k
-  pub names : Names h room (named_by_operations s h k) named
+  pub known : Known s h (named_by_operations s h k) t
   pub good : (j : ℕ) → j < k → good_operation s h j ≡ true
 
-pub begin : (s : List ℤ) (h : Header) {room : ℕ} (named : List Bool) → Names h room (named_by_rules s h h.rules) named → Turn s h room 0 0 named
+pub begin : {s : List ℤ} {h : Header} {t : Trees} → Known s h (named_by_rules s h h.rules) t → Turn s h 0 0 t
 unfolding named_by_operations
-begin s h named n =
+begin {s} {h} n =
     record {
-      here = omega arith;
       is = sym (sum_zero (effect_count s h));
-      names =
+      known =
           renamed n (λ a. sym
           (ap (λ t. named_by_rules s h h.rules a || t) (any_zero (λ j. eqb (operation s h j).w1 a)) ∙ or_false (named_by_rules s h h.rules a)));
       good = λ j l. absurd (omega arith);
@@ -54,9 +53,7 @@ count_of : (s : List ℤ) (h : Header) (k : ℕ) → (operation s h k).w3 ≡ ef
 unfolding record_at
 count_of s h k = refl
 
-module _ (s : List ℤ) (h : Header) (k sum : ℕ) {types scopes : List ℕ} {named : List Bool} {room : ℕ} (typed : Typed s h types scopes)
-    (w : Turn s h room k sum named) (l : k < h.operations)
-    {base : ℕ} {r : Record} (eb : base ≡ first_operation h) (er : r ≡ record_at s (base + k)) where
+module _ {s : List ℤ} {h : Header} {k sum : ℕ} {t : Trees} (w : Turn s h k sum t) (l : k < h.operations) {base : ℕ} {r : Record ℕ} (eb : base ≡ first_operation h) (er : r ≡ record_at s (base + k)) where
   is : r ≡ operation s h k
   is = er ∙ rw eb
 
@@ -71,28 +68,19 @@ module _ (s : List ℤ) (h : Header) (k sum : ℕ) {types scopes : List ℕ} {na
         covers_effects s h g,
       )
 
-  module _ {rooted m u : Bool} (eo : rooted ≡ root_test h r.w1 types scopes named) (em : m ≡ good_mask h r.w0) (eu : u ≡ unused 5 r) where
+  module _ {rooted m u : Bool} (eo : rooted ≡ root_test h r.w1 t) (em : m ≡ good_mask h r.w0) (eu : u ≡ unused 5 r) where
     test : (m && rooted && eqb r.w2 sum && leb 1 r.w3 && leb 1 r.w4 && leb r.w4 8 && u) ≡ good_operation s h k
     unfolding good_operation
-    test = rw (em, eo ∙ root_is s h r.w1 types scopes typed w.names, eu, is, w.is)
+    test = rw (em, eo ∙ root_is r.w1 w.known, eu, is, w.is)
 
-    pub again : {v : List Bool} → (m && rooted && eqb r.w2 sum && leb 1 r.w3 && leb 1 r.w4 && leb r.w4 8 && u) ≡ true
-        → v ≡ marked true r.w1 named → Turn s h room (k + 1) (sum + r.w3) v
+    pub again : {u' : Trees} → (m && rooted && eqb r.w2 sum && leb 1 r.w3 && leb 1 r.w4 && leb r.w4 8 && u) ≡ true
+        → u' ≡ with_flags (marked true r.w1 t.named) t → Turn s h (k + 1) (sum + r.w3) u'
     again p e =
         record {
-          here = omega arith;
           is = rw (sum_more (effect_count s h) k, w.is, is, count_of s h k);
-          names = name_more true (operation s h k).w1 w.names (e ∙ rw is) (name_operation s h k);
+          known = name_more true (operation s h k).w1 w.known (e ∙ rw is) (name_operation s h k);
           good = extend_one (λ (j : ℕ). good_operation s h j ≡ true) k w.good (sym test ∙ p);
         }
 
-    pub stop : (m && rooted && eqb r.w2 sum && leb 1 r.w3 && leb 1 r.w4 && leb r.w4 8 && u) ≡ false
-        → k ≡ first_fail (good_operation s h) 0 h.operations
-    stop p = fail_at (good_operation s h) h.operations k l w.good (sym test ∙ p)
-
-pub finish : (s : List ℤ) (h : Header) (k sum : ℕ) {named : List Bool} {room : ℕ} → Turn s h room k sum named → h.operations ≤ k
-    → (k ≡ first_fail (good_operation s h) 0 h.operations) × (h.operations ≤ k → Names h room (named_by_operations s h h.operations) named)
-finish s h k sum {named} {room} w l = (
-  fail_none (good_operation s h) h.operations k w.here l w.good,
-  λ _. subst (λ (n : ℕ). Names h room (named_by_operations s h n) named) (omega (arith, w.here)) w.names,
-)
+    pub stop : (m && rooted && eqb r.w2 sum && leb 1 r.w3 && leb 1 r.w4 && leb r.w4 8 && u) ≡ false → good_operation s h k ≡ false
+    stop p = sym test ∙ p

@@ -1,49 +1,47 @@
 // The scan of the steps.
-ghost use Rattle.std.specs.Prelude.{◌≡◌, true, ℕ, ◌<◌, length};
-ghost use Rattle.tables.specs.Scan.{first_fail};
+ghost use Rattle.std.specs.Prelude.{◌≡◌, true, ℕ, ◌<◌};
+ghost use Rattle.layout.specs.Header.{first_step};
 ghost use Rattle.layout.specs.Sized.{Sized};
 ghost use Rattle.layout.specs.Groups.{good_groups};
 ghost use Rattle.records.specs.Operations.{good_operation};
 ghost use Rattle.records.specs.Names.{named_by_operations};
 ghost use Rattle.records.specs.Flows.{good_step};
-ghost use Rattle.sheet_roots.specs.Roots.{Typed, Names, kind_test};
+ghost use Rattle.records.specs.Scans.{scanned};
+ghost use Rattle.sheet_roots.specs.Roots.{Known, kind_test};
 
 use crate::root;
-use layout::Header;
+use layout::Sheet;
 use records::good_operation_step;
-use tables::mark;
-use words::{Record, record_at, unused};
+use sheet_nodes::Trees;
+use words::{Record, record_at};
 
 // A step by its kind: an operation, or a branch on a node that can be a root.
-fn good_kind(s: &[i64], h: Header, r: Record, rooted: bool) -> bool
-    requires { Sized s.now h × ((k : ℕ) → k < h.operations → good_operation s.now h k ≡ true) }
-    ensures { result ≡ kind_test s.now h r rooted }
+fn good_kind(s: &Sheet, r: Record<usize>, rooted: bool) -> bool
+    requires { (k : ℕ) → k < s.now.header.operations → good_operation s.now.words.now s.now.header k ≡ true }
+    ensures { result ≡ kind_test s.now.words.now s.now.header r rooted }
 {
-    let kind = r.w0;
-    match kind {
-        0 => good_operation_step(s, h, r),
+    match r.w0 {
+        0 => good_operation_step(s, r),
         1 => rooted & (r.w2 == 0) & (r.w4 == 2),
-        2.. => false,
+        _ => false,
     }
 }
 
-pub fn check_steps(s: &[i64], h: Header, sorts: &[u16], scopes: &[u8], named: &mut [bool]) -> usize
-    requires { Sized s.now h × (good_groups s.now h ≡ true) × Typed s.now h sorts.now scopes.now × ((k : ℕ) → k < h.operations → good_operation s.now h k ≡ true) × Names h (length named.old) (named_by_operations s.now h h.operations) named.old }
-    ensures { result ≡ first_fail (good_step s.now h) 0 h.steps }
+pub fn check_steps(s: &Sheet, trees: &mut Trees) -> Result<(), usize>
+    requires { (good_groups s.now.words.now s.now.header ≡ true) × Known s.now.words.now s.now.header (named_by_operations s.now.words.now s.now.header s.now.header.operations) trees.old × ((k : ℕ) → k < s.now.header.operations → good_operation s.now.words.now s.now.header k ≡ true) }
+    ensures { result ≡ scanned (first_step s.now.header) (good_step s.now.words.now s.now.header) s.now.header.steps }
 {
-    let n = h.steps;
+    let base = s.header.first_step();
     let mut sum = 0;
-    let mut k = 0;
-    while k < n {
-        let r = record_at(s, h.first_step() + k);
-        let rooted = root(h, sorts, scopes, named, r.w1);
-        if good_kind(s, h, r, rooted) & (r.w3 == sum) & unused(5, r) {
-            mark(named, r.w0 == 1, r.w1);
-            sum += r.w4;
-            k += 1;
-        } else {
-            return k;
+    for k in 0..s.header.steps {
+        let r = record_at(s.words, base + k);
+        let rooted = root(s.header, trees, r.w1);
+        let good = good_kind(s, r, rooted) & (r.w3 == sum) & r.unused(5);
+        if !good {
+            return Err(base + k);
         }
+        trees.mark(r.w0 == 1, r.w1);
+        sum += r.w4;
     }
-    k
+    Ok(())
 }

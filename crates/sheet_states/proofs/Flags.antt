@@ -23,11 +23,11 @@ use Rattle.records.specs.Entities.{good_entity, good_change, good_transition, sa
 use Rattle.sheet_states.specs.Flags.{SmallChange, place_of, Declared}
 
 -- a good change has a flag
-few_states : (r : Record) → good_entity r ≡ true → r.w0 ≤ 16
+few_states : (r : Record ℕ) → good_entity r ≡ true → r.w0 ≤ 16
 unfolding good_entity
 few_states r p = let q = simp tests at p in q.0.0.1
 
-pub small_change : (s : List ℤ) (h : Header) (r : Record) → ((k : ℕ) → k < h.entities → good_entity (entity s h k) ≡ true) → good_change s h r ≡ true
+pub small_change : (s : List ℤ) (h : Header) (r : Record ℕ) → ((k : ℕ) → k < h.entities → good_entity (entity s h k) ≡ true) → good_change s h r ≡ true
     → SmallChange h r
 unfolding good_change
 small_change s h r g p =
@@ -36,7 +36,7 @@ small_change s h r g p =
     record { entity = q.0.0; from = omega (arith, q.0.1); to = omega (arith, q.1) }
 
 -- two records have one flag exactly if they name the same change
-same_place : (h : Header) (q r : Record) → SmallChange h q → SmallChange h r → place_of q ≡ place_of r → same_change q r ≡ true
+same_place : (h : Header) (q r : Record ℕ) → SmallChange h q → SmallChange h r → place_of q ≡ place_of r → same_change q r ≡ true
 unfolding same_change
 same_place h q r a b e =
     let e0 : q.w0 ≡ r.w0 = omega (arith, a, b, e) in
@@ -44,11 +44,11 @@ same_place h q r a b e =
     let e2 : q.w2 ≡ r.w2 = omega (arith, a, b, e) in
     rw (eq-eqb q.w0 r.w0 e0, eq-eqb q.w1 r.w1 e1, eq-eqb q.w2 r.w2 e2)
 
-place_same : (q r : Record) → same_change q r ≡ true → place_of q ≡ place_of r
+place_same : (q r : Record ℕ) → same_change q r ≡ true → place_of q ≡ place_of r
 unfolding same_change
 place_same q r p = let x = simp tests at p in rw (x.0.0, x.0.1, x.1)
 
-differ : (q r : Record) → (place_of q ≡ place_of r → ⊥) → same_change q r ≡ false
+differ : (q r : Record ℕ) → (place_of q ≡ place_of r → ⊥) → same_change q r ≡ false
 differ q r n = ⊎_elim (λ p. absurd (n (place_same q r p))) (λ p. p) (bool_cases (same_change q r))
 
 pub none : (s : List ℤ) (h : Header) (m : ℕ) (t : List Bool) → 256 * h.entities ≤ m → t ≡ replicate m false → Declared s h m 0 t
@@ -72,7 +72,7 @@ more s h m k t d g a =
       good = extend_one (λ (j : ℕ). good_transition s h j ≡ true) k d.good g;
     }
   where
-    go : (r : Record) → SmallChange h r → Dec (place_of r ≡ place_of (transition s h k))
+    go : (r : Record ℕ) → SmallChange h r → Dec (place_of r ≡ place_of (transition s h k))
         → get_or (set t (place_of (transition s h k)) true) (place_of r) false ≡ (declared s h k r || same_change (transition s h k) r)
     go r b (yes e) =
         rw (e, same_place h (transition s h k) r a b (sym e))
@@ -82,7 +82,7 @@ more s h m k t d g a =
         (get_or-set_other t (place_of (transition s h k)) (place_of r) true false n ∙ d.flags r b ∙ sym (or_false (declared s h k r)))
 
 -- what a turn of the loop computes
-module _ (s : List ℤ) (h : Header) (k : ℕ) {m : ℕ} (t : List Bool) (d : Declared s h m k t) {base : ℕ} {r : Record} {a b : Bool}
+module _ (s : List ℤ) (h : Header) (k : ℕ) {m : ℕ} (t : List Bool) (d : Declared s h m k t) {base : ℕ} {r : Record ℕ} {a b : Bool}
     (eb : base ≡ first_transition h) (er : r ≡ record_at s (base + k)) (ea : a ≡ good_change s h r) (eu : b ≡ unused 3 r) where
   is : r ≡ transition s h k
   is = er ∙ rw eb

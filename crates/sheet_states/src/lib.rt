@@ -1,60 +1,51 @@
 // The scans of the entities and of the transitions. A flag for each (entity, from, to) says whether that transition is declared.
 #![tactic(auto)]
 
-ghost use Rattle.std.specs.Prelude.{◌≡◌, true, false, ℕ, ◌+◌, ◌*◌, ◌≤◌, ◌<◌, length, replicate};
-ghost use Rattle.tables.specs.Scan.{first_fail};
+ghost use Rattle.std.specs.Prelude.{◌≡◌, true, false, ℕ, ◌+◌, ◌*◌, ◌≤◌, ◌<◌, length, replicate, OnOk};
 ghost use Rattle.words.specs.declared.Record.{Record};
+ghost use Rattle.layout.specs.Header.{first_entity, first_transition};
 ghost use Rattle.layout.specs.Sized.{Sized};
 ghost use Rattle.layout.specs.Tables.{entity};
 ghost use Rattle.records.specs.Entities.{good_entity, good_transition};
+ghost use Rattle.records.specs.Scans.{scanned};
 ghost use Rattle.sheet_states.specs.Flags.{place_of, Declared};
 
-use layout::Header;
+use layout::Sheet;
 use records::{good_change, good_entity};
-use words::{Record, record_at, unused};
+use words::{Record, record_at};
 
-pub fn check_entities(s: &[i64], h: Header) -> usize
-    requires { Sized s.now h }
-    ensures { result ≡ first_fail (λ e. good_entity (entity s.now h e)) 0 h.entities }
+pub fn check_entities(s: &Sheet) -> Result<(), usize>
+    ensures { result ≡ scanned (first_entity s.now.header) (λ e. good_entity (entity s.now.words.now s.now.header e)) s.now.header.entities }
 {
-    let base = h.first_entity();
-    let n = h.entities;
-    let mut k = 0;
-    while k < n {
-        if good_entity(record_at(s, base + k)) {
-            k += 1;
-        } else {
-            return k;
+    let base = s.header.first_entity();
+    for k in 0..s.header.entities {
+        if !good_entity(record_at(s.words, base + k)) {
+            return Err(base + k);
         }
     }
-    k
+    Ok(())
 }
 
 // The flag of a record's entity, from and to.
-pub fn place_of(r: Record) -> usize
+pub fn place_of(r: Record<usize>) -> usize
     requires { (r.w0 < 32) × (r.w1 < 16) × (r.w2 < 16) }
     ensures { result ≡ place_of r }
 {
     256 * r.w0 + 16 * r.w1 + r.w2
 }
 
-pub fn check_transitions(s: &[i64], h: Header, declared: &mut [bool]) -> usize
-    requires { Sized s.now h × ((k : ℕ) → k < h.entities → good_entity (entity s.now h k) ≡ true) × (256 * h.entities ≤ length declared.old) × (declared.old ≡ replicate (length declared.old) false) }
-    ensures value { result ≡ first_fail (good_transition s.now h) 0 h.transitions }
-    ensures declared { h.transitions ≤ result → Declared s.now h (length declared.old) h.transitions declared.new }
+pub fn check_transitions(s: &Sheet, declared: &mut [bool]) -> Result<(), usize>
+    requires { ((k : ℕ) → k < s.now.header.entities → good_entity (entity s.now.words.now s.now.header k) ≡ true) × (256 * s.now.header.entities ≤ length declared.old) × (declared.old ≡ replicate (length declared.old) false) }
+    ensures value { result ≡ scanned (first_transition s.now.header) (good_transition s.now.words.now s.now.header) s.now.header.transitions }
+    ensures declared { OnOk result (Declared s.now.words.now s.now.header (length declared.old) s.now.header.transitions declared.new) }
 {
-    let base = h.first_transition();
-    let n = h.transitions;
-    let mut k = 0;
-    while k < n {
-        let r = record_at(s, base + k);
-        if good_change(s, h, r) & unused(3, r) {
-            let i = place_of(r);
-            declared[i] = true;
-            k += 1;
-        } else {
-            return k;
+    let base = s.header.first_transition();
+    for k in 0..s.header.transitions {
+        let r = record_at(s.words, base + k);
+        if !(good_change(s, r) & r.unused(3)) {
+            return Err(base + k);
         }
+        declared[place_of(r)] = true;
     }
-    k
+    Ok(())
 }

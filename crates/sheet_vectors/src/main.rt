@@ -2,107 +2,93 @@
 // the number of the refusal, 0 where the sheet is accepted, and the refusal's place.
 #![tactic(auto)]
 
-ghost use Rattle.std.specs.Prelude.{◌+◌, ◌≤◌, ◌<◌};
+ghost use Rattle.std.specs.Prelude.{◌≤◌, ◌<◌, IfOk};
 
 mod largest;
 mod sheets;
 
-use answer::Status;
-use script::buffers::put;
-use script::lines;
-use sheets::{CASES, FIRST};
+use answer::Refusal;
+use script::buffers::Cursor;
+use sheets::{Base, CASES, FIRST, Sheets, WORDS};
 use signed::num;
-use tables::word_entry;
+use standard::Output;
+use std::io;
+use std::io::Write;
 
-fn line(case: usize, number: usize, place: usize) {
-    lines::number(case);
-    lines::field(number);
-    lines::field(place);
-    lines::end();
-}
-
-fn show(case: usize, status: Status) {
-    match status {
-        Status::Done => line(case, 0, 0),
-        Status::Refused(r) => line(case, answer::number(r), answer::place(r)),
-    }
-}
+// How many numbers the tape has room for.
+const TAPE: usize = 16_384;
 
 // Checks the first n of the words.
-fn judge(case: usize, words: &[i64], n: usize) {
-    if n <= words.len() {
-        show(case, sheet::check(&words[..n]));
+fn judge(out: &mut impl Write, case: usize, words: &[i64], n: usize) -> io::Result<()> {
+    let Some(sheet) = words.get(..n) else {
+        return Ok(());
+    };
+    let (number, place) = match sheet::check(sheet) {
+        Ok(()) => (0, 0),
+        Err(r) => (r.number(), r.place()),
+    };
+    writeln!(out, "{case}\t{number}\t{place}")
+}
+
+// A case: base, length, number of changes, changes. The sheet is as long as the case says, or else as the base.
+fn run(
+    out: &mut impl Write,
+    sheets: Sheets<'_>,
+    cases: &mut Cursor<'_>,
+    case: usize,
+) -> io::Result<()> {
+    let mut words = [0i64; WORDS];
+    let base = Base::from(cases.number());
+    let given = num(cases.number());
+    let n = if given <= WORDS { given } else { base.size() };
+    base.lay(sheets, &mut words);
+    for _ in 0..num(cases.number()).min(16) {
+        sheets::change(cases, &mut words);
     }
-}
-
-// As long as the case says, or else as the base.
-fn length(base: usize, given: i64) -> usize {
-    let n = num(given);
-    if n < 30233 { n } else { sheets::size(base) }
-}
-
-// The case at a place of the tape: base, length, number of changes, changes.
-fn run(tape: &[i64], at: usize, changes: usize, case: usize)
-    requires { (at < 16384) × (changes ≤ 16) }
-{
-    let mut words = [0i64; 30232];
-    let base = num(word_entry(tape, at));
-    let n = length(base, word_entry(tape, at + 1));
-    sheets::lay(base, tape, &mut words);
-    sheets::change(tape, at + 3, changes, &mut words);
-    judge(case, &words, n);
-}
-
-fn changes(tape: &[i64], at: usize) -> usize
-    requires { at < 16384 }
-    ensures { result ≤ 16 }
-{
-    let n = num(word_entry(tape, at + 2));
-    if n < 16 { n } else { 16 }
+    judge(out, case, &words, n)
 }
 
 // The cases of the tape, up to its end; answers how many there are.
-fn run_all(tape: &[i64], end: usize) -> usize
-    requires { end ≤ 16384 }
-    ensures { result ≤ 16384 }
+fn run_all(out: &mut impl Write, sheets: Sheets<'_>, mut cases: Cursor<'_>) -> io::Result<usize>
+    ensures { IfOk result (λ n. n ≤ 16384) }
 {
-    let mut at = CASES;
-    let mut case = 0;
-    while at < end {
-        let n = changes(tape, at);
-        run(tape, at, n, case);
-        at += 3 + 3 * n;
-        case += 1;
+    for case in 0..TAPE {
+        if cases.is_over() {
+            return Ok(case);
+        }
+        run(out, sheets, &mut cases, case)?;
     }
-    case
-}
-
-// The first sheet with one word changed.
-fn run_changed(tape: &[i64], i: usize, v: i64, case: usize) {
-    let mut words = [0i64; 152];
-    sheets::lay_first(tape, &mut words);
-    put(&mut words, i, v);
-    judge(case, &words, FIRST);
+    Ok(TAPE)
 }
 
 // Every word of the first sheet in turn, each made v.
-fn sweep(tape: &[i64], v: i64, first: usize)
+fn sweep(out: &mut impl Write, sheet: &[i64], v: i64, first: usize) -> io::Result<()>
     requires { first < 32768 }
 {
-    let mut i = 0;
-    while i < FIRST {
-        run_changed(tape, i, v, first + i);
-        i += 1;
+    for i in 0..FIRST {
+        let mut words = [0i64; FIRST];
+        sheets::copy(sheet, &mut words);
+        words[i] = v;
+        judge(out, first + i, &words, FIRST)?;
     }
+    Ok(())
+}
+
+// The cases, then a sweep for each of three words.
+fn run_sweeps(out: &mut impl Write, tape: &[i64; TAPE], end: usize) -> io::Result<()> {
+    let sheets = Sheets::new(tape);
+    let cases = Cursor::new(&tape[CASES..], end.saturating_sub(CASES));
+    let n = run_all(out, sheets, cases)?;
+    for (i, v) in [-1, i64::MIN, i64::MAX].iter().enumerate() {
+        sweep(out, sheets.first, *v, n + FIRST * i)?;
+    }
+    Ok(())
 }
 
 fn main() {
-    let mut text = [0u8; 131072];
-    let n = io::read_full(0, &mut text);
-    let mut tape = [0i64; 16384];
+    let mut text = [0u8; 131_072];
+    let n = standard::read(&mut text);
+    let mut tape = [0i64; TAPE];
     let end = script::read(&text[..n], &mut tape);
-    let cases = run_all(&tape, end);
-    sweep(&tape, -1, cases);
-    sweep(&tape, -9_223_372_036_854_775_808, cases + 152);
-    sweep(&tape, 9_223_372_036_854_775_807, cases + 304);
+    let _ = run_sweeps(&mut Output, &tape, end);
 }

@@ -1,76 +1,100 @@
 // The sheets that the cases start from, and changes to them.
-ghost use Rattle.std.specs.Prelude.{◌+◌, ◌≤◌};
-
 use crate::largest;
-use script::buffers::put;
+use script::buffers::Cursor;
 use signed::num;
-use tables::word_entry;
+
+// How many words the longest sheet of a case has.
+pub const WORDS: usize = 30_232;
 
 // How many words the tape's two sheets have, one after the other; the cases follow them.
 pub const FIRST: usize = 152;
 
 pub const SECOND: usize = 1168;
 
-pub const CASES: usize = 1320;
+pub const CASES: usize = FIRST + SECOND;
 
-// Words of the tape, from `from` on, to the start of the sheet.
-fn copy(tape: &[i64], from: usize, n: usize, out: &mut [i64])
-    requires { from + n ≤ 16384 }
-{
-    let mut i = 0;
-    while i < n {
-        put(out, i, word_entry(tape, from + i));
-        i += 1;
+// The tape's two sheets.
+#[derive(Clone, Copy)]
+pub struct Sheets<'a> {
+    pub first: &'a [i64],
+    pub second: &'a [i64],
+}
+
+impl<'a> Sheets<'a> {
+    pub fn new(tape: &'a [i64; 16384]) -> Sheets<'a> {
+        Sheets {
+            first: &tape[..FIRST],
+            second: &tape[FIRST..CASES],
+        }
     }
 }
 
-pub(crate) fn lay_first(tape: &[i64], out: &mut [i64]) {
-    copy(tape, 0, FIRST, out);
+// What a case starts from.
+#[derive(Clone, Copy)]
+pub enum Base {
+    NoWords,
+    HeaderAlone,
+    First,
+    Second,
+    Largest,
 }
 
-// Bases: 0 no words, 1 a header alone, 2 and 3 the tape's sheets, 4 the largest.
-pub(crate) fn lay(base: usize, tape: &[i64], out: &mut [i64]) {
-    match base {
-        1 => put(out, 0, 1),
-        2 => lay_first(tape, out),
-        3 => copy(tape, FIRST, SECOND, out),
-        4 => largest::lay(out),
-        _ => {}
+impl From<i64> for Base {
+    fn from(code: i64) -> Base {
+        match code {
+            1 => Base::HeaderAlone,
+            2 => Base::First,
+            3 => Base::Second,
+            4 => Base::Largest,
+            _ => Base::NoWords,
+        }
     }
 }
 
-pub(crate) fn size(base: usize) -> usize {
-    match base {
-        1 => 16,
-        2 => FIRST,
-        3 => SECOND,
-        4 => 30224,
-        _ => 0,
+impl Base {
+    pub fn lay(self, sheets: Sheets<'_>, out: &mut [i64; WORDS]) {
+        match self {
+            Base::NoWords => {}
+            Base::HeaderAlone => out[0] = 1,
+            Base::First => copy(sheets.first, out),
+            Base::Second => copy(sheets.second, out),
+            Base::Largest => largest::lay(out),
+        }
+    }
+
+    pub fn size(self) -> usize {
+        match self {
+            Base::NoWords => 0,
+            Base::HeaderAlone => 16,
+            Base::First => FIRST,
+            Base::Second => SECOND,
+            Base::Largest => largest::SIZE,
+        }
+    }
+}
+
+// Puts words to the start of a sheet, as many as it has room for.
+pub fn copy(words: &[i64], out: &mut [i64]) {
+    for (x, w) in out.iter_mut().zip(words) {
+        *x = *w;
     }
 }
 
 // Where a record's word stands; of no record, where the header's does.
-fn place(record: i64, word: i64) -> usize {
-    let k = num(record);
-    let j = num(word);
-    if k < 3777 {
-        if j < 8 {
-            return 16 + 8 * k + j;
-        }
+fn place(record: usize, word: usize) -> usize {
+    if record < 3777 && word < 8 {
+        16 + 8 * record + word
+    } else {
+        word
     }
-    j
 }
 
-// The changes that stand at `first` on the tape: record, word, value.
-pub(crate) fn change(tape: &[i64], first: usize, n: usize, out: &mut [i64])
-    requires { (first ≤ 16387) × (n ≤ 16) }
-{
-    let mut at = first;
-    let mut i = 0;
-    while i < n {
-        let p = place(word_entry(tape, at), word_entry(tape, at + 1));
-        put(out, p, word_entry(tape, at + 2));
-        at += 3;
-        i += 1;
+// The change that is next: record, word, value.
+pub fn change(cases: &mut Cursor<'_>, out: &mut [i64]) {
+    let record = num(cases.number());
+    let word = num(cases.number());
+    let value = cases.number();
+    if let Some(x) = out.get_mut(place(record, word)) {
+        *x = value;
     }
 }

@@ -1,16 +1,15 @@
 -- The natural number that a word is: bounds and equality of the word are those of its number. Assumes nothing.
 use mathlib.Core.Path.{◌≡◌, refl, sym, ap, ◌∙◌}
-use mathlib.Core.Bool.{Bool, true, false, ◌&&◌, true≢false}
-use Prim.Native.Nat.{ℕ, zero, suc, ◌-◌, ◌^◌, ◌≤◌, ◌<◌}
+use mathlib.Core.Bool.{Bool, true, false, ◌&&◌}
+use Prim.Native.Nat.{ℕ, ◌^◌, ◌≤◌, ◌<◌}
 use native.Mathlib.Omega.{arith}
-use lib.Dec.{T, leb, eqb}
-use lib.IntN.{ℤ, pos, negsuc, nat_abs, ◌+ℤ◌, ◌-ℤ◌}
-use lib.Signed.{non_neg, lt_z}
+use lib.Dec.{leb, eqb}
+use lib.IntN.{ℤ, pos, negsuc}
 use mir.Syntax.{w64}
-use mir.Val.{Fits, SFits}
+use mir.Val.{SFits, of_z}
 use borrow.Author.Tests.{lt-leb, ne_eqb}
 use Rattle.signed.specs.Words.{eq_z, within, num}
-use Rattle.signed.proofs.Parts.{Le, lt_true, ext, plus_parts, minus_parts}
+use Rattle.signed.proofs.Parts.{Le}
 use Rattle.signed.proofs.Bounds.{In}
 
 pub num_of : (n : ℕ) → num (pos n) ≡ n
@@ -60,42 +59,8 @@ unfolding eq_z num
 same_num (pos m) n h = refl
 same_num (negsuc m) n h = sym (ne_eqb (num (negsuc m)) n (λ e. omega (arith, num_large m)))
 
--- ---- the casts that read the number, and the number they read
-
-pub cast_fits : (w : ℤ) → SFits w64 w → lt_z w (pos 0) ≡ false → T (non_neg w) × Fits w64 (nat_abs w)
-cast_fits (pos n) f e = (tt, omega arith)
-cast_fits (negsuc n) f e = absurd (true≢false e)
-
-pub cast_num : (w : ℤ) → lt_z w (pos 0) ≡ false → nat_abs w ≡ num w
+-- a word's bits, read without a sign
+pub bits_num : (w : ℤ) → SFits w64 w → of_z w64 w ≡ num w
 unfolding num
-cast_num (pos n) e = refl
-cast_num (negsuc n) e = absurd (true≢false e)
-
--- of a negative word w, −(w + 1) is not negative, and the largest number less it is the word's number
-next_fits : (n : ℕ) → SFits w64 (negsuc n) → SFits w64 (negsuc n +ℤ pos 1)
-next_fits zero f = record { sfits = omega arith }
-next_fits (suc n) f =
-    rw (ext (negsuc (suc n) +ℤ pos 1) (negsuc n) (omega (arith, plus_parts (negsuc (suc n)) (pos 1)))) (record { sfits = omega (arith, f.sfits) })
-
-turned_is : (n : ℕ) → pos 0 -ℤ (negsuc n +ℤ pos 1) ≡ pos n
-turned_is n = ext (pos 0 -ℤ (negsuc n +ℤ pos 1)) (pos n) (omega (arith, minus_parts (pos 0) (negsuc n +ℤ pos 1), plus_parts (negsuc n) (pos 1)))
-
--- w is negative, and its bits read without a sign come out by the three steps
-pub record Turned (w : ℤ) : Type 0 where
-  pub next : SFits w64 (w +ℤ pos 1)
-  pub turned : SFits w64 (pos 0 -ℤ (w +ℤ pos 1))
-  pub cast : T (non_neg (pos 0 -ℤ (w +ℤ pos 1))) × Fits w64 (nat_abs (pos 0 -ℤ (w +ℤ pos 1)))
-  pub below : nat_abs (pos 0 -ℤ (w +ℤ pos 1)) ≤ 2 ^ 64 - 1
-  pub is : 2 ^ 64 - 1 - nat_abs (pos 0 -ℤ (w +ℤ pos 1)) ≡ num w
-
-pub turned : (w : ℤ) → SFits w64 w → lt_z w (pos 0) ≡ true → Turned w
-unfolding num
-turned (pos n) f e = absurd (omega (arith, (lt_true (pos n) (pos 0) e).lt))
-turned (negsuc n) f e =
-    record {
-      next = next_fits n f;
-      turned = rw (turned_is n) (record { sfits = omega (arith, f.sfits) });
-      cast = rw (turned_is n) (tt, omega (arith, f.sfits));
-      below = rw (turned_is n) (omega (arith, f.sfits));
-      is = rw (turned_is n) (omega (arith, f.sfits));
-    }
+bits_num (pos n) f = refl
+bits_num (negsuc n) f = omega arith

@@ -8,6 +8,7 @@ use native.Mathlib.Nat.{mul-le-mul_right}
 use native.Mathlib.Omega.{arith}
 use lib.IntN.{ℤ, pos, negsuc, neg_ℤ, ◌+ℤ◌, ◌-ℤ◌, ◌*ℤ◌}
 use lib.Signed.{le_z}
+use Rattle.std.specs.Int.{int_max, int_min}
 use Rattle.signed.specs.Words.{min_z, max_z}
 use Rattle.signed.proofs.Parts.{Le, Lt, le_true, le_false, ext, neg_parts, plus_parts, times_parts}
 
@@ -47,21 +48,15 @@ le_total a b = ⊎_elim inl (λ h. inr (lt_le h)) (le_or_lt a b)
 
 -- ---- the smaller and the larger of two
 
-pub min_first : (a b : ℤ) → le_z a b ≡ true → min_z a b ≡ a
-unfolding min_z
-min_first a b e = rw e
-
-pub min_second : (a b : ℤ) → le_z a b ≡ false → min_z a b ≡ b
-unfolding min_z
-min_second a b e = rw e
-
-pub max_second : (a b : ℤ) → le_z a b ≡ true → max_z a b ≡ b
+-- what std's `max` gives
+pub int_max_z : (a b : ℤ) → int_max a b ≡ max_z a b
 unfolding max_z
-max_second a b e = rw e
+int_max_z a b = grind arith
 
-pub max_first : (a b : ℤ) → le_z a b ≡ false → max_z a b ≡ a
-unfolding max_z
-max_first a b e = rw e
+-- and `min`
+pub int_min_z : (a b : ℤ) → int_min a b ≡ min_z a b
+unfolding min_z
+int_min_z a b = grind arith
 
 -- what holds of each of the two where it is the one taken, holds of the smaller
 min_by : (Q : ℤ → Type 0) (a b : ℤ) → (Le a b → Q a) → (Le b a → Q b) → Q (min_z a b)

@@ -12,11 +12,11 @@ use borrow.Author.Tests.{not-true}
 use Rattle.signed.specs.Words.{eq_z, max_z}
 use Rattle.signed.specs.Compare.{holds, some_pair, can_hold, can_fail}
 use Rattle.signed.specs.Inner.{Pair}
-use Rattle.signed.proofs.Parts.{Le, Lt, le_true, true_le, true_by, false_by, signs}
+use Rattle.signed.proofs.Parts.{Le, Lt, le_true, true_le, false_le, true_lt, false_lt, true_by, false_by, signs}
 use Rattle.signed.proofs.Order.{le_antisym, le_or_lt, max_left, max_right, max_le}
 use Rattle.signed.proofs.Bounds.{In, in_true, true_in, and_left, and_right}
 
--- there is no operator past 5
+-- there is no comparison past 5
 pub holds_unknown : (op : ℕ) (x y : ℤ) → 5 < op → holds op x y ≡ false
 unfolding holds
 holds_unknown zero x y h = absurd (omega arith)
@@ -26,6 +26,18 @@ holds_unknown (suc (suc (suc zero))) x y h = absurd (omega arith)
 holds_unknown (suc (suc (suc (suc zero)))) x y h = absurd (omega arith)
 holds_unknown (suc (suc (suc (suc (suc zero))))) x y h = absurd (omega arith)
 holds_unknown (suc (suc (suc (suc (suc (suc op)))))) x y h = refl
+
+-- ---- the opposite of a comparison
+
+pub not_not : (t : Bool) → t ≡ not (not t)
+not_not true = refl
+not_not false = refl
+
+pub le_not_lt : (a b : ℤ) → le_z a b ≡ not (lt_z b a)
+le_not_lt a b = ⊎_elim (λ h. rw (true_le a b h, false_lt b a h)) (λ h. rw (false_le a b h, true_lt b a h)) (le_or_lt a b)
+
+pub lt_not_le : (a b : ℤ) → lt_z a b ≡ not (le_z b a)
+lt_not_le a b = not_not (lt_z a b) ∙ ap not (sym (le_not_lt b a))
 
 -- ---- a comparison goes by the order of the two values
 

@@ -2,11 +2,13 @@
 // The laws that callers' proofs cite are in proofs/, by natural numbers alone.
 #![tactic(auto)]
 
-ghost use Rattle.std.specs.Prelude.{◌≡◌, true, pos, ◌+ℤ◌, ◌-ℤ◌, ◌*ℤ◌, ◌<◌, ◌^◌};
+ghost use Rattle.std.specs.Prelude.{◌≡◌, true, not, ℤ, pos, ◌+ℤ◌, ◌-ℤ◌, ◌*ℤ◌, ◌<◌, ◌^◌};
 ghost use Rattle.std.specs.Int.Signed.{lt_z, le_z};
-ghost use Rattle.signed.specs.Words.{eq_z, within, bounded, num, min_z, max_z};
-ghost use Rattle.signed.specs.Compare.{holds, can_hold, can_fail};
+ghost use Rattle.signed.specs.Words.{eq_z, within, bounded, num};
+ghost use Rattle.signed.specs.Compare.{holds, can_hold, can_fail, operator_number, Decodes};
 
+// The tests, `within`, `to_word` and the arithmetic stay functions: what an operator gives is known through a word's 64 bits, and these say it of
+// the integers, which is what callers' proofs go by.
 pub fn less(a: i64, b: i64) -> bool
     ensures { result ≡ lt_z a b }
 {
@@ -28,7 +30,7 @@ pub fn same(a: i64, b: i64) -> bool
 pub fn within(low: i64, x: i64, high: i64) -> bool
     ensures { result ≡ within low x high }
 {
-    at_most(low, x) & at_most(x, high)
+    (low <= x) & (x <= high)
 }
 
 // Whether a word lies in −M..M.
@@ -38,16 +40,11 @@ pub fn bounded(x: i64) -> bool
     within(-1_000_000_000, x, 1_000_000_000)
 }
 
-// The natural number that a word is; a negative word is a number past every limit. It is the number of the word's bits without a sign, so
-// that the compiled code has nothing to do.
+// The natural number that a word is; a negative word is a number past every limit.
 pub fn num(w: i64) -> usize
     ensures { result ≡ num w }
 {
-    if w < 0 {
-        18_446_744_073_709_551_615 - (-(w + 1)) as usize
-    } else {
-        w as usize
-    }
+    w.cast_unsigned() as usize
 }
 
 pub fn to_word(n: usize) -> i64
@@ -79,47 +76,80 @@ pub fn times(a: i64, b: i64) -> i64
     a * b
 }
 
-pub fn smaller(a: i64, b: i64) -> i64
-    ensures { result ≡ min_z a b }
-{
-    if a <= b { a } else { b }
+// The six comparisons = ≠ < ≤ > ≥, which have the numbers 0 to 5.
+#[derive(Clone, Copy)]
+pub enum Comparison {
+    Equal,
+    Unequal,
+    Less,
+    AtMost,
+    Greater,
+    AtLeast,
 }
 
-pub fn larger(a: i64, b: i64) -> i64
-    ensures { result ≡ max_z a b }
-{
-    if a <= b { b } else { a }
-}
+// A number that is no comparison's.
+#[derive(Clone, Copy)]
+pub struct UnknownComparison(pub usize);
 
-// Whether a comparison holds: = ≠ < ≤ > ≥ by their numbers 0 to 5.
-pub fn holds(op: usize, a: i64, b: i64) -> bool
-    ensures { result ≡ holds op a b }
-{
-    match op {
-        0 => a == b,
-        1 => a != b,
-        2 => a < b,
-        3 => a <= b,
-        4 => a > b,
-        5 => a >= b,
-        6.. => false,
+impl TryFrom<usize> for Comparison {
+    type Error = UnknownComparison;
+
+    ghost try_from_gives = { Decodes };
+
+    fn try_from(n: usize) -> Result<Self, UnknownComparison> {
+        match n {
+            0 => Ok(Comparison::Equal),
+            1 => Ok(Comparison::Unequal),
+            2 => Ok(Comparison::Less),
+            3 => Ok(Comparison::AtMost),
+            4 => Ok(Comparison::Greater),
+            5 => Ok(Comparison::AtLeast),
+            6.. => Err(UnknownComparison(n)),
+        }
     }
 }
 
-// Whether some x of l1..h1 and y of l2..h2 satisfy the comparison: if any pair does, then one of three does.
-pub fn can_hold(op: usize, l1: i64, h1: i64, l2: i64, h2: i64) -> bool
-    ensures { result ≡ can_hold op l1 h1 l2 h2 }
-{
-    let m = larger(l1, l2);
-    let common = at_most(l1, h2) & at_most(l2, h1) & holds(op, m, m);
-    holds(op, l1, h2) | holds(op, h1, l2) | common
-}
+impl Comparison {
+    // The comparison that holds where this one does not.
+    fn opposite(self) -> Self
+        ensures { (x : ℤ) (y : ℤ) → holds (operator_number result) x y ≡ not (holds (operator_number self) x y) }
+    {
+        match self {
+            Comparison::Equal => Comparison::Unequal,
+            Comparison::Unequal => Comparison::Equal,
+            Comparison::Less => Comparison::AtLeast,
+            Comparison::AtMost => Comparison::Greater,
+            Comparison::Greater => Comparison::AtMost,
+            Comparison::AtLeast => Comparison::Less,
+        }
+    }
 
-// Whether some x of l1..h1 and y of l2..h2 do not satisfy it.
-pub fn can_fail(op: usize, l1: i64, h1: i64, l2: i64, h2: i64) -> bool
-    ensures { result ≡ can_fail op l1 h1 l2 h2 }
-{
-    let m = larger(l1, l2);
-    let common = at_most(l1, h2) & at_most(l2, h1) & !holds(op, m, m);
-    !holds(op, l1, h2) | !holds(op, h1, l2) | common
+    pub fn holds(self, a: i64, b: i64) -> bool
+        ensures { result ≡ holds (operator_number self) a b }
+    {
+        match self {
+            Comparison::Equal => a == b,
+            Comparison::Unequal => a != b,
+            Comparison::Less => a < b,
+            Comparison::AtMost => a <= b,
+            Comparison::Greater => a > b,
+            Comparison::AtLeast => a >= b,
+        }
+    }
+
+    // Whether some x of l1..h1 and y of l2..h2 satisfy the comparison: if any pair does, then one of three does.
+    pub fn can_hold(self, l1: i64, h1: i64, l2: i64, h2: i64) -> bool
+        ensures { result ≡ can_hold (operator_number self) l1 h1 l2 h2 }
+    {
+        let m = l1.max(l2);
+        let common = at_most(l1, h2) & at_most(l2, h1) & self.holds(m, m);
+        self.holds(l1, h2) | self.holds(h1, l2) | common
+    }
+
+    // Whether some x of l1..h1 and y of l2..h2 do not satisfy it.
+    pub fn can_fail(self, l1: i64, h1: i64, l2: i64, h2: i64) -> bool
+        ensures { result ≡ can_fail (operator_number self) l1 h1 l2 h2 }
+    {
+        self.opposite().can_hold(l1, h1, l2, h2)
+    }
 }

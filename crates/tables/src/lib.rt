@@ -1,44 +1,21 @@
-// Arrays that are read at any number: past the end stands the default.
+// Arrays that are read at any number.
 #![tactic(auto)]
 
-ghost use Rattle.std.specs.Prelude.{◌≡◌, true, false, pos, get_or};
+ghost use Rattle.std.specs.Prelude.{◌≡◌, true, false, get_or};
 ghost use Rattle.tables.specs.Inner.{marked};
 
-pub fn entry(t: &[usize], i: usize) -> usize
-    ensures { result ≡ get_or t.now i 0 }
+// Entry i of a table, or `rest` past its end.
+pub fn entry<T: Copy>(t: &[T], i: usize, rest: T) -> T
+    ensures { result ≡ get_or t.now i rest }
 {
-    if i < t.len() { t[i] } else { 0 }
+    t.get(i).copied().unwrap_or(rest)
 }
 
-pub fn word_entry(t: &[i64], i: usize) -> i64
-    ensures { result ≡ get_or t.now i (pos 0) }
-{
-    if i < t.len() { t[i] } else { 0 }
-}
-
-// The same of smaller elements.
-pub fn int_entry(t: &[i32], i: usize) -> i64
-    ensures { result ≡ get_or t.now i (pos 0) }
-{
-    if i < t.len() { t[i] as i64 } else { 0 }
-}
-
-pub fn short_entry(t: &[u16], i: usize) -> usize
-    ensures { result ≡ get_or t.now i 0 }
-{
-    if i < t.len() { t[i] as usize } else { 0 }
-}
-
-pub fn byte_entry(t: &[u8], i: usize) -> usize
-    ensures { result ≡ get_or t.now i 0 }
-{
-    if i < t.len() { t[i] as usize } else { 0 }
-}
-
+// Whether the flag of i is set; past the end none is.
 pub fn flag(t: &[bool], i: usize) -> bool
     ensures { result ≡ get_or t.now i false }
 {
-    if i < t.len() { t[i] } else { false }
+    entry(t, i, false)
 }
 
 // Sets the flag of i where `on` says so and there is such a flag.

@@ -1,12 +1,12 @@
 -- Lines that are judged one after the other, by either call: what the lines so far and the lines to come say of the answer.
 -- Assumes nothing.
+use Rattle.std.specs.Prelude.{Ok, Err}
 use Prim.Native.Nat.{ℕ, ◌+◌}
 use mathlib.Core.Path.{◌≡◌, refl}
 use mathlib.Core.Bool.{Bool, true, false}
 use mathlib.Core.List.{List, [], ◌∷◌, map}
 use native.Mathlib.Omega.{arith}
 use lib.ListN.{length, length-append}
-use Rattle.answer.specs.declared.Count.TheVariants.{Is, Refused}
 use Rattle.answer.specs.declared.Refusal.TheVariants.{Line}
 use Rattle.text.specs.Lines.{all, join}
 use Rattle.text.specs.Calls.{before, judged}
@@ -32,13 +32,13 @@ module _ {X Y : Type 0} (ok : X → Bool) (of : X → List Y) where
       }
 
   pub judged_bad : (lines : List X) (x : X) (rest : List X) (k n : ℕ) → ok x ≡ false → Judged ok of lines (x ∷ rest) k n
-      → judged ok lines (length (join (map of lines))) ≡ Refused (Line k)
+      → judged ok lines (length (join (map of lines))) ≡ Err (Line k)
   unfolding all before judged
   judged_bad lines x rest k n e j =
       let p : before ok lines ≡ k = (let q = rw e at j.place in omega arith) in
       rw (rw e at j.goods, p)
 
-  pub judged_done : (lines : List X) (k n : ℕ) → Judged ok of lines [] k n → judged ok lines (length (join (map of lines))) ≡ Is n
+  pub judged_done : (lines : List X) (k n : ℕ) → Judged ok of lines [] k n → judged ok lines (length (join (map of lines))) ≡ Ok n
   unfolding all join judged
   judged_done lines k n j =
       let p : length (join (map of lines)) ≡ n = omega (arith, j.size) in

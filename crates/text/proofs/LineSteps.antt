@@ -1,5 +1,6 @@
 -- The steps of `read`: a line that is read field by field, and the next line of a text.
 -- Assumes nothing.
+use Rattle.std.specs.Prelude.{Option, Some, None}
 use Prim.Native.Nat.{ℕ, ◌+◌, ◌≤◌, ◌<◌}
 use mathlib.Core.Path.{◌≡◌, refl, sym, ◌∙◌, ap, subst}
 use mathlib.Core.Bool.{Bool, true, false, cond}
@@ -10,12 +11,10 @@ use lib.ListN.{length, drop, length-append, length-drop}
 use lib.Seq.{drop-append_seam, drop-drop}
 use Rattle.decimal.specs.Decimal.{decimal, has_text}
 use Rattle.decimal.specs.Scan.{field_at}
-use Rattle.decimal.specs.declared.Word.TheVariants.{Is as IsWord, Bad as NoWord}
+use Rattle.decimal.specs.declared.Field.{Field}
 use Rattle.decimal.proofs.Reading.{FieldIs, field_sound, field_complete}
 use Rattle.text.specs.Lines.{all, join, line, good_row, lines_of, numbers, good_line}
 use Rattle.text.specs.Steps.{end_of, first_end, line_end}
-use Rattle.text.specs.declared.LineEnd.{LineEnd}
-use Rattle.text.specs.declared.LineEnd.TheVariants.{Next, Bad}
 use Rattle.text.proofs.Cut.{join_cut}
 use Rattle.text.proofs.Rows.{all_more, all_append, row_is, row_good, line_is, line_good, first_line}
 use Rattle.text.proofs.Fields.{fields, end_plain, row_fields, fields_append, fields_least, Following, following}
@@ -40,17 +39,17 @@ fields_snoc ws v =
     let here : 0 + length ws ≡ length ws = omega arith in
     fields_append ws (v ∷ []) 0 ∙ ap (λ (k : ℕ). fields 0 ws ++ (decimal v ++ (end_of k ∷ []))) here
 
-pub so_far_more : (text : List ℕ) (at next j : ℕ) (v : ℤ) (after : ℕ) → SoFar text at next j → field_at text next (end_of j) ≡ IsWord v after
-    → SoFar text at after (j + 1)
+pub so_far_more : (text : List ℕ) (at next j : ℕ) (w : Field) → SoFar text at next j → field_at text next (end_of j) ≡ Some w
+    → SoFar text at w.next (j + 1)
 unfolding all
-so_far_more text at next j v after s e =
-    let field : FieldIs text next (end_of j) v after = field_sound text next (end_of j) v after e in
-    let grown : fields 0 (s.words ++ (v ∷ [])) ≡ fields 0 s.words ++ (decimal v ++ (end_of j ∷ [])) =
-    rw (← s.count) (fields_snoc s.words v) in
+so_far_more text at next j w s e =
+    let field : FieldIs text next (end_of j) w.value w.next = field_sound text next (end_of j) w e in
+    let grown : fields 0 (s.words ++ (w.value ∷ [])) ≡ fields 0 s.words ++ (decimal w.value ++ (end_of j ∷ [])) =
+    rw (← s.count) (fields_snoc s.words w.value) in
     record {
-      words = s.words ++ (v ∷ []);
-      count = omega (arith, s.count, length-append s.words (v ∷ []));
-      permitted = all_append has_text s.words (v ∷ []) s.permitted (all_more has_text v [] field.permitted refl);
+      words = s.words ++ (w.value ∷ []);
+      count = omega (arith, s.count, length-append s.words (w.value ∷ []));
+      permitted = all_append has_text s.words (w.value ∷ []) s.permitted (all_more has_text w.value [] field.permitted refl);
       split = s.split ∙ ap (λ (l : List ℕ). fields 0 s.words ++ l) field.split ∙ rw grown (simp append_assoc);
       place =
           omega (
@@ -59,12 +58,12 @@ so_far_more text at next j v after s e =
             field.later,
             field.within,
             length-drop next text,
-            length-drop after text,
+            length-drop w.next text,
             ap length field.split,
-            length-append (decimal v) (end_of j ∷ drop after text),
+            length-append (decimal w.value) (end_of j ∷ drop w.next text),
             ap length grown,
-            length-append (fields 0 s.words) (decimal v ++ (end_of j ∷ [])),
-            length-append (decimal v) (end_of j ∷ []),
+            length-append (fields 0 s.words) (decimal w.value ++ (end_of j ∷ [])),
+            length-append (decimal w.value) (end_of j ∷ []),
           );
     }
 
@@ -79,25 +78,25 @@ pub record LineIs (text : List ℕ) (at next : ℕ) : Type 0 where
   pub within : next ≤ length text
 
 line_ends : (text : List ℕ) (at : ℕ) (ws : List ℤ) (l : List ℕ) → good_row ws ≡ true → drop at text ≡ line ws ++ l
-    → line_end at (drop at text) ≡ Next (at + length (line ws))
+    → line_end at (drop at text) ≡ Some (at + length (line ws))
 unfolding line_end first_end
 line_ends text at ws l g e = rw (e, first_line ws l g, line_good ws g)
 
-pub so_far_done : (text : List ℕ) (at next : ℕ) → SoFar text at next 8 → line_end at (drop at text) ≡ Next next
+pub so_far_done : (text : List ℕ) (at next : ℕ) → SoFar text at next 8 → line_end at (drop at text) ≡ Some next
 so_far_done text at next s =
     let row : line s.words ≡ fields 0 s.words = row_fields s.words 0 s.count refl in
     line_ends text at s.words (drop next text) (row_good s.words s.count s.permitted)
     (s.split ∙ ap (λ (l : List ℕ). l ++ drop next text) (sym row))
-    ∙ ap Next (omega (arith, s.place, ap length row))
+    ∙ ap Some (omega (arith, s.place, ap length row))
 
 -- the first of the lines, if there is one, by its test
-first_end_lem : (at : ℕ) (ls : List (List ℕ)) (R : LineEnd → Type 0) → R Bad
-    → ((l : List ℕ) (rest : List (List ℕ)) → ls ≡ l ∷ rest → good_line l ≡ true → R (Next (at + length l))) → R (first_end at ls)
+first_end_lem : (at : ℕ) (ls : List (List ℕ)) (R : Option ℕ → Type 0) → R None
+    → ((l : List ℕ) (rest : List (List ℕ)) → ls ≡ l ∷ rest → good_line l ≡ true → R (Some (at + length l))) → R (first_end at ls)
 unfolding first_end
 first_end_lem at [] R bad good = bad
 first_end_lem at (l ∷ rest) R bad good = go (good_line l) refl
   where
-    go : (t : Bool) → good_line l ≡ t → R (cond t (Next (at + length l)) Bad)
+    go : (t : Bool) → good_line l ≡ t → R (cond t (Some (at + length l)) None)
     go true e = good l rest refl e
     go false e = bad
 
@@ -124,17 +123,17 @@ starts bytes l rest e g =
       split = sym (join_cut 10 bytes) ∙ ap join e;
     }
 
-pub no_end : (text : List ℕ) (next j : ℕ) → Following (drop next text) j → field_at text next (end_of j) ≡ NoWord → ⊥
+pub no_end : (text : List ℕ) (next j : ℕ) → Following (drop next text) j → field_at text next (end_of j) ≡ None → ⊥
 no_end text next j f e =
     let read = field_complete text next (end_of j) f.word f.rest f.permitted (end_plain j) f.split in
     let clash : ◌≡◌ {A = ℕ} 0 1 = cc in
     omega arith
 
-pub so_far_bad : (text : List ℕ) (at next j : ℕ) → j < 8 → SoFar text at next j → field_at text next (end_of j) ≡ NoWord
-    → line_end at (drop at text) ≡ Bad
+pub so_far_bad : (text : List ℕ) (at next j : ℕ) → j < 8 → SoFar text at next j → field_at text next (end_of j) ≡ None
+    → line_end at (drop at text) ≡ None
 unfolding line_end
 so_far_bad text at next j h s e =
-    first_end_lem at (lines_of (drop at text)) (λ (x : LineEnd). x ≡ Bad) refl
+    first_end_lem at (lines_of (drop at text)) (λ (x : Option ℕ). x ≡ None) refl
     (λ l rest q g.
     let start = starts (drop at text) l rest q g in
     let split : fields 0 s.words ++ drop next text ≡ fields 0 (numbers l) ++ join rest =
@@ -145,10 +144,12 @@ so_far_bad text at next j h s e =
     let here : 0 + length s.words ≡ j = omega (arith, s.count) in
     absurd (no_end text next j (subst (Following (drop next text)) here next_word) e))
 
-pub line_next : (text : List ℕ) (at next : ℕ) → at ≤ length text → line_end at (drop at text) ≡ Next next → LineIs text at next
+pub ruleset line_steps = (so_far_none, so_far_more, so_far_bad, so_far_done)
+
+pub line_next : (text : List ℕ) (at next : ℕ) → at ≤ length text → line_end at (drop at text) ≡ Some next → LineIs text at next
 unfolding line_end
 line_next text at next h =
-    first_end_lem at (lines_of (drop at text)) (λ (x : LineEnd). x ≡ Next next → LineIs text at next)
+    first_end_lem at (lines_of (drop at text)) (λ (x : Option ℕ). x ≡ Some next → LineIs text at next)
     (λ e. let clash : ◌≡◌ {A = ℕ} 0 1 = cc in absurd (omega arith))
     (λ l rest q g e.
     let start = starts (drop at text) l rest q g in

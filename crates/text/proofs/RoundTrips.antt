@@ -1,6 +1,7 @@
 -- Both round trips, on the definitions that the contracts of `read` and `write` cite: `read_answer` and `read_buffer`, `write_answer` and
 -- `write_buffer`. They hold for every text, all words and every lent slice.
 -- Assumes nothing.
+use Rattle.std.specs.Prelude.{Ok}
 use Prim.Native.Nat.{ℕ, ◌*◌, ◌%◌, ◌≤◌}
 use mathlib.Core.Path.{◌≡◌, sym, ◌∙◌, ap, subst}
 use mathlib.Core.Bool.{true}
@@ -8,7 +9,6 @@ use mathlib.Core.List.{List}
 use mathlib.Core.Logic.{◌↔◌}
 use lib.IntN.{ℤ}
 use lib.ListN.{length, take}
-use Rattle.answer.specs.declared.Count.TheVariants.{Is}
 use Rattle.decimal.specs.Decimal.{has_text}
 use Rattle.text.specs.Lines.{all, line, numbers, good_row, rows_of, text_of, good_line, lines_of, words_of}
 use Rattle.text.specs.Calls.{read_answer, read_buffer, write_answer, write_buffer}
@@ -18,24 +18,24 @@ use Rattle.text.proofs.Calls.{Accepted, accepted, accepts, filled_take}
 
 -- ---- what a call that goes through leaves
 
-read_is : (text : List ℕ) (lent : List ℤ) (n : ℕ) → read_answer text (length lent) ≡ Is n
+read_is : (text : List ℕ) (lent : List ℤ) (n : ℕ) → read_answer text (length lent) ≡ Ok n
     → Accepted good_line (lines_of text) (length (words_of text)) (length lent) n
 unfolding read_answer
 read_is text lent n e = accepted good_line (lines_of text) (length (words_of text)) (length lent) n e
 
 reads : (text : List ℕ) (room : ℕ) → all good_line (lines_of text) ≡ true → length (words_of text) ≤ room
-    → read_answer text room ≡ Is (length (words_of text))
+    → read_answer text room ≡ Ok (length (words_of text))
 unfolding read_answer
 reads text room h r = accepts good_line (lines_of text) (length (words_of text)) room h r
 
-read_words : (text : List ℕ) (lent : List ℤ) (n : ℕ) → read_answer text (length lent) ≡ Is n → take n (read_buffer text lent) ≡ words_of text
+read_words : (text : List ℕ) (lent : List ℤ) (n : ℕ) → read_answer text (length lent) ≡ Ok n → take n (read_buffer text lent) ≡ words_of text
 unfolding read_buffer
 read_words text lent n e =
     let count : n ≡ length (words_of text) = (read_is text lent n e).count in
     rw (e, count) (filled_take (words_of text) lent)
 
 write_is : (words : List ℤ) (lent : List ℕ) → all good_row (rows_of words) ≡ true → length (text_of words) ≤ length lent
-    → write_answer words (length lent) ≡ Is (length (text_of words))
+    → write_answer words (length lent) ≡ Ok (length (text_of words))
 unfolding write_answer
 write_is words lent h r = accepts good_row (rows_of words) (length (text_of words)) (length lent) h r
 
@@ -55,9 +55,9 @@ one_line l = (
 
 -- a text that is read, its words written again with room enough: the answer is the text's length, and the bytes are the text
 pub text_again : (text : List ℕ) (lent_words : List ℤ) (n : ℕ) (lent_text : List ℕ)
-    → read_answer text (length lent_words) ≡ Is n
+    → read_answer text (length lent_words) ≡ Ok n
     → length text ≤ length lent_text
-    → (write_answer (take n (read_buffer text lent_words)) (length lent_text) ≡ Is (length text))
+    → (write_answer (take n (read_buffer text lent_words)) (length lent_text) ≡ Ok (length text))
     × (take (length text) (write_buffer (take n (read_buffer text lent_words)) lent_text) ≡ text)
 text_again text lent_words n lent_text e r =
     let good : all good_line (lines_of text) ≡ true = (read_is text lent_words n e).good in
@@ -65,7 +65,7 @@ text_again text lent_words n lent_text e r =
     let again : text_of (words_of text) ≡ text = text_of_words text good in
     let room : length (text_of (words_of text)) ≤ length lent_text = rw again r in
     rw (read_words text lent_words n e) (
-      write_is (words_of text) lent_text rows room ∙ ap (λ (t : List ℕ). Is (length t)) again,
+      write_is (words_of text) lent_text rows room ∙ ap (λ (t : List ℕ). Ok (length t)) again,
       ap (λ (t : List ℕ). take (length t) (write_buffer (words_of text) lent_text)) (sym again) ∙ write_text (words_of text) lent_text rows room ∙ again,
     )
 
@@ -77,14 +77,14 @@ pub words_again : (words : List ℤ) (lent_text : List ℕ) (lent_words : List �
     → length (text_of words) ≤ length lent_text
     → length words ≤ length lent_words
     → (n : ℕ)
-    × (write_answer words (length lent_text) ≡ Is n)
-    × (read_answer (take n (write_buffer words lent_text)) (length lent_words) ≡ Is (length words))
+    × (write_answer words (length lent_text) ≡ Ok n)
+    × (read_answer (take n (write_buffer words lent_text)) (length lent_words) ≡ Ok (length words))
     × (take (length words) (read_buffer (take n (write_buffer words lent_text)) lent_words) ≡ words)
 words_again words lent_text lent_words whole texts room_text room_words =
     let rows : all good_row (rows_of words) ≡ true = whole_good words whole texts in
     let again : words_of (text_of words) ≡ words = words_of_text words rows in
-    let read : read_answer (text_of words) (length lent_words) ≡ Is (length words) =
-    reads (text_of words) (length lent_words) (text_of_good words rows) (rw again room_words) ∙ ap (λ (ws : List ℤ). Is (length ws)) again in (
+    let read : read_answer (text_of words) (length lent_words) ≡ Ok (length words) =
+    reads (text_of words) (length lent_words) (text_of_good words rows) (rw again room_words) ∙ ap (λ (ws : List ℤ). Ok (length ws)) again in (
       length (text_of words),
       write_is words lent_text rows room_text,
       rw (write_text words lent_text rows room_text) read,
@@ -97,8 +97,8 @@ room_enough words whole texts = rw (text_fields words (whole_good words whole te
 
 -- no two texts have the same words
 pub one_text : (text text' : List ℕ) (lent lent' : List ℤ) (n : ℕ)
-    → read_answer text (length lent) ≡ Is n
-    → read_answer text' (length lent') ≡ Is n
+    → read_answer text (length lent) ≡ Ok n
+    → read_answer text' (length lent') ≡ Ok n
     → take n (read_buffer text lent) ≡ take n (read_buffer text' lent')
     → text ≡ text'
 one_text text text' lent lent' n e e' s =

@@ -1,39 +1,34 @@
 -- The loops of `write`: words of a line and lines that are judged, bytes that are counted, and fields that are written, one after the other.
 -- Assumes nothing.
-use Prim.Native.Nat.{ℕ, suc, ◌+◌, ◌-◌, ◌*◌, ◌≤◌, ◌<◌, min}
+use Rattle.std.specs.Prelude.{Err}
+use Prim.Native.Nat.{ℕ, zero, suc, ◌+◌, ◌*◌, ◌/◌, ◌≤◌, ◌<◌}
 use mathlib.Core.Path.{◌≡◌, refl, sym, ◌∙◌, ap}
 use mathlib.Core.Bool.{Bool, true, false, cond, ◌&&◌, and_assoc, and-true}
 use mathlib.Core.List.{List, [], ◌∷◌, ◌++◌}
 use native.Mathlib.Omega.{arith}
 use native.Mathlib.Numerals.{add-one}
-use borrow.Author.Tests.{ne_eqb, eq-eqb}
+use borrow.Author.Tests.{ne_eqb, eq-eqb, leb-true}
+use mir.Syntax.{w64}
+use mir.Val.{to_z, of_z}
+use mir.ValLaws.{to_z-of_z}
 use lib.IntN.{ℤ, pos}
 use lib.ListN.{length, take, drop, get_or, length-take, length-drop, length-append, drop_of_length-le}
-use lib.Seq.{append_snoc, sets, length-sets, drop-cons, drop-drop, get_or-take, get_or-drop}
-use Rattle.answer.specs.declared.Count.TheVariants.{Refused}
+use lib.Seq.{append_snoc, sets, length-sets, drop-cons}
+use Rattle.std.specs.List.{prefix_len}
+use Rattle.std.proofs.lemmas.List.Sums.{prefix_len-drop_yes, prefix_len-drop_no, prefix_len-drop_all}
+use Rattle.std.specs.Simd.{first_chunks}
 use Rattle.answer.specs.declared.Refusal.TheVariants.{Line}
 use Rattle.decimal.specs.Decimal.{decimal, has_text}
+use Rattle.decimal.proofs.Signed.{fits_word}
 use Rattle.decimal.proofs.Writing.{sets_append}
 use Rattle.text.specs.Lines.{all, join, good_row, rows_of, text_of}
 use Rattle.text.specs.Calls.{before, judged}
 use Rattle.text.specs.Steps.{end_of}
 use Rattle.text.proofs.Rows.{all_cons, all_more, all_drop, row_is, rows_none, rows_more, join_rows, words_good}
 use Rattle.text.proofs.Fields.{fields, length_field, fields_most, text_fields}
-use Rattle.text.proofs.Calls.{before_length, rows_count}
+use Rattle.text.proofs.Calls.{before_length, rows_count, ends_refused}
 
 -- ---- a line that is judged
-
-pub row_short : (ws : List ℤ) → length ws < 8 → good_row ws ≡ false
-unfolding good_row
-row_short ws h = rw (ne_eqb (length ws) 8 (λ e. omega arith))
-
--- the line of the words from `from` on
-module _ (words : List ℤ) (from : ℕ) where
-  pub row_size : length (take 8 (drop from words)) ≡ min 8 (length words - from)
-  row_size = length-take 8 (drop from words) ∙ ap (min 8) (length-drop from words)
-
-  pub row_word : (j : ℕ) → j < 8 → get_or (take 8 (drop from words)) j (pos 0) ≡ get_or words (from + j) (pos 0)
-  row_word j h = get_or-take 8 (drop from words) j (pos 0) h ∙ get_or-drop from words j (pos 0)
 
 -- j words of a line are judged
 abbrev pub Testing : List ℤ → Bool → ℕ → Type 0
@@ -48,48 +43,41 @@ testing_more row good j h s =
     ∙ ap (λ (ws : List ℤ). good && all has_text ws) rest
     ∙ sym (and_assoc good (has_text (get_or row j (pos 0))) (all has_text (drop (j + 1) row)))
 
-pub testing_done : (row : List ℤ) (good : Bool) → length row ≡ 8 → Testing row good 8 → good_row row ≡ good
+pub testing_done : (row : List ℤ) (good : Bool) (j : ℕ) → length row ≡ 8 → length row ≤ j → Testing row good j → good_row row ≡ good
 unfolding good_row all
-testing_done row good h s =
-    let all_passed : length row ≤ 8 = omega arith in
-    let none : drop 8 row ≡ [] = drop_of_length-le row all_passed in
+testing_done row good j h i s =
+    let none : drop j row ≡ [] = drop_of_length-le row i in
     let judged-all : all has_text row ≡ good = s ∙ ap (λ (ws : List ℤ). good && all has_text ws) none ∙ and-true good in
     rw (eq-eqb (length row) 8 h, judged-all)
 
+pub ruleset testing_steps = (testing_more, testing_done)
+
 -- ---- lines that are judged
 
--- k good lines end at word `from`
-pub record Passing (words : List ℤ) (from k : ℕ) : Type 0 where
-  pub within : from ≤ length words
-  pub place : k ≤ from
-  pub goods : before good_row (rows_of words) ≡ k + before good_row (rows_of (drop from words))
+row_short : (ws : List ℤ) → length ws < 8 → good_row ws ≡ false
+unfolding good_row
+row_short ws h = rw (ne_eqb (length ws) 8 (λ e. omega arith))
 
-pub passing_none : (words : List ℤ) → Passing words 0 0
-passing_none words = record { within = omega arith; place = omega arith; goods = omega arith }
-
-next_rows : (words : List ℤ) (from : ℕ) → from < length words → rows_of (drop from words) ≡ take 8 (drop from words) ∷ rows_of (drop (from + 8) words)
-next_rows words from h =
-    rows_more (drop from words) (omega (arith, length-drop from words))
-    ∙ ap (λ (ws : List ℤ). take 8 (drop from words) ∷ rows_of ws) (drop-drop 8 from words)
-
-module _ (words : List ℤ) (from k : ℕ) (h : from < length words) (p : Passing words from k) where
-  pub passing_more : good_row (take 8 (drop from words)) ≡ true → Passing words (from + 8) (k + 1)
-  unfolding before
-  passing_more e =
-      record {
-        within = omega (arith, (row_is (take 8 (drop from words)) e).0, row_size words from);
-        place = omega (arith, p.place);
-        goods = (let q = rw (next_rows words from h, e) at p.goods in omega arith);
-      }
-
-  pub passing_bad : good_row (take 8 (drop from words)) ≡ false → before good_row (rows_of words) ≡ k
-  unfolding before
-  passing_bad e = let q = rw (next_rows words from h, e) at p.goods in omega arith
-
-pub passing_done : (words : List ℤ) (from k : ℕ) → length words ≤ from → Passing words from k → before good_row (rows_of words) ≡ k
+short_before : (ws : List ℤ) → length ws < 8 → before good_row (rows_of ws) ≡ 0
 unfolding before
-passing_done words from k h p =
-    let q = rw (ap rows_of (drop_of_length-le words h) ∙ rows_none) at p.goods in omega arith
+short_before [] h = rw rows_none
+short_before (w ∷ ws) h =
+    let some : 0 < length (w ∷ ws) = omega arith in
+    let short : length (take 8 (w ∷ ws)) < 8 = omega (arith, length-take 8 (w ∷ ws)) in
+    rw (rows_more (w ∷ ws) some, row_short (take 8 (w ∷ ws)) short)
+
+chunks_before : (k : ℕ) (ws : List ℤ) → length ws / 8 ≡ k → prefix_len good_row (first_chunks 8 k ws) ≡ before good_row (rows_of ws)
+unfolding before
+chunks_before zero ws h = sym (short_before ws (omega arith))
+chunks_before (suc k) ws h =
+    rw (rows_more ws (omega arith), chunks_before k (drop 8 ws) (omega (arith, length-drop 8 ws)))
+    (ap (λ (n : ℕ). cond (good_row (take 8 ws)) n 0) (omega arith))
+
+-- the good lines at the start are the good chunks there: a short last line is no chunk, and is not good
+pub rows_before : (ws : List ℤ) → prefix_len good_row (first_chunks 8 (length ws / 8) ws) ≡ before good_row (rows_of ws)
+rows_before ws = chunks_before (length ws / 8) ws refl
+
+pub ruleset passing_steps = (rows_before, prefix_len-drop_yes, prefix_len-drop_no, prefix_len-drop_all)
 
 -- ---- whole lines
 
@@ -126,14 +114,18 @@ module _ (words : List ℤ) (k : ℕ) (e : k ≡ before good_row (rows_of words)
   pub lines_whole : k * 8 ≡ length words → all good_row (rows_of words) ≡ true
   lines_whole h = all_before good_row (rows_of words) (omega (arith, rows_count words))
 
-  pub lines_short : (k * 8 ≡ length words → ⊥) → (n : ℕ) → judged good_row (rows_of words) n ≡ Refused (Line k)
+  pub lines_short : (k * 8 ≡ length words → ⊥) → (n : ℕ) → judged good_row (rows_of words) n ≡ Err (Line k)
   unfolding judged
   lines_short h n = go (all good_row (rows_of words)) refl
     where
-      go : (t : Bool) → all good_row (rows_of words) ≡ t → judged good_row (rows_of words) n ≡ Refused (Line k)
+      go : (t : Bool) → all good_row (rows_of words) ≡ t → judged good_row (rows_of words) n ≡ Err (Line k)
       go true g =
           absurd (h (omega (arith, before_all good_row (rows_of words) g, eights (rows_of words) g, ap length (join_rows words))))
       go false g = rw (g, ← e)
+
+pub ruleset whole_lines = (lines_few, lines_whole, lines_short)
+
+pub ruleset write_steps = (whole_lines, ends_refused, leb-true)
 
 -- ---- fields that are counted, and written
 
@@ -163,9 +155,15 @@ module _ (words : List ℤ) (good : all good_row (rows_of words) ≡ true) where
     word_permitted =
         (all_cons has_text word (drop (i + 1) words) (rw words_rest at (all_drop has_text i words (words_good words good)))).0
 
+    -- it is one that a machine word holds
+    pub word_told : to_z w64 (of_z w64 word) ≡ word
+    word_told = to_z-of_z w64 word (fits_word word word_permitted)
+
     pub counting_more : (n : ℕ) → Counting words n i → Counting words (n + (length (decimal word) + 1)) (i + 1)
     counting_more n p =
         omega (arith, ap (λ (l : List ℤ). length (fields i l)) words_rest, length_field word (drop (i + 1) words) i)
+
+pub ruleset counting_steps = (text_most, counting_none, counting_done, word_permitted, word_told, counting_more)
 
 -- i words are written, and `at` is the place of the next
 pub record Putting (words : List ℤ) (lent text : List ℕ) (at i : ℕ) : Type 0 where
@@ -206,3 +204,5 @@ module _ (words : List ℤ) (good : all good_row (rows_of words) ≡ true) (lent
   unfolding fields
   putting_done text at i h p =
       ap (λ (l : List ℤ). sets text at (fields i l)) (sym (drop_of_length-le words h)) ∙ p.put
+
+pub ruleset putting_steps = (word_permitted, word_told, counting_done, putting_none, putting_room, putting_more, putting_done)

@@ -7,15 +7,7 @@ ghost use Rattle.text.specs.Lines.{all, good_row, rows_of, text_of, good_line, l
 ghost use Rattle.text.specs.Calls.{before, judged, read_answer, read_buffer, write_answer, write_buffer};
 ghost use Rattle.text.specs.Steps.{end_of, line_end};
 
-use answer::{Count, Refusal};
-use decimal::Word;
-
-// A line's end, or that it is bad.
-#[derive(Clone, Copy)]
-pub enum LineEnd {
-    Next(usize),
-    Bad,
-}
+use answer::Refusal;
 
 // Words are parted by a tab, and the eighth of a line is ended by LF.
 fn ending(i: usize) -> u8
@@ -25,128 +17,100 @@ fn ending(i: usize) -> u8
 }
 
 // The end of the line that starts at `at`: eight words, each with its ending.
-fn line_at(text: &[u8], at: usize) -> LineEnd
+#[tactic(auto, using(crate::proofs::LineSteps::line_steps))]
+fn line_at(text: &[u8], at: usize) -> Option<usize>
     ensures { result ≡ line_end at (drop at text.now) }
 {
     let mut next = at;
-    let mut j = 0;
-    while j < 8 {
-        match decimal::field_at(text, next, ending(j)) {
-            Word::Is {
-                value: _,
-                next: after,
-            } => {
-                next = after;
-                j += 1;
-            }
-            Word::Bad => return LineEnd::Bad,
-        }
+    for j in 0..8 {
+        next = decimal::field_at(text, next, ending(j))?.next;
     }
-    LineEnd::Next(next)
+    Some(next)
 }
 
 // The number of words in the text, or its first bad line.
-fn count_words(text: &[u8]) -> Count
+#[tactic(auto, using(crate::proofs::ReadLoops::counting_steps))]
+fn count_words(text: &[u8]) -> Result<usize, Refusal>
     ensures { result ≡ judged good_line (lines_of text.now) (length (words_of text.now)) }
 {
     let mut at = 0;
     let mut k: usize = 0;
+    // A line starts where the one before it ends, so that no range or iterator has the places: k counts the lines.
     while at < text.len() {
-        match line_at(text, at) {
-            LineEnd::Next(next) => {
-                at = next;
-                k += 1;
-            }
-            LineEnd::Bad => return Count::Refused(Refusal::Line(k)),
-        }
+        at = line_at(text, at).ok_or(Refusal::Line(k))?;
+        k += 1;
     }
-    Count::Is(k * 8)
+    Ok(k * 8)
 }
 
 // The second pass of `read`: the text is good, so that every field is read again.
-fn store(text: &[u8], words: &mut [i64], n: usize)
-    requires { (all good_line (lines_of text.now) ≡ true) × (n ≡ length (words_of text.now)) × (n ≤ length words.old) }
-    ensures { words.new ≡ sets words.old 0 (words_of text.now) }
+#[tactic(auto, using(crate::proofs::ReadLoops::storing_steps))]
+fn store(text: &[u8], words: &mut [i64])
+    requires { (all good_line (lines_of text.now) ≡ true) × (length words.old ≡ length (words_of text.now)) }
+    ensures { words.new ≡ words_of text.now }
 {
     let mut at = 0;
-    let mut i = 0;
-    while i < n {
-        match decimal::field_at(text, at, ending(i)) {
-            Word::Is { value, next } => {
-                words[i] = value;
-                at = next;
-                i += 1;
-            }
-            Word::Bad => return,
-        }
+    for (i, word) in words.iter_mut().enumerate() {
+        let field = decimal::field_at(text, at, ending(i)).unwrap();
+        *word = field.value;
+        at = field.next;
     }
 }
 
 // Reads the words of a text. The answer is how many there are. On refusal, and past the result, `words` stays as it was.
-pub fn read(text: &[u8], words: &mut [i64]) -> Count
+#[tactic(auto, using(crate::proofs::Calls::ends_refused), unfolding(crate::specs::Calls::read_answer, crate::specs::Calls::read_buffer))]
+pub fn read(text: &[u8], words: &mut [i64]) -> Result<usize, Refusal>
     ensures { (result ≡ read_answer text.now (length words.old)) × (words.new ≡ read_buffer text.now words.old) }
 {
-    match count_words(text) {
-        Count::Is(n) => {
-            if words.len() < n {
-                return Count::Refused(Refusal::NoRoom);
-            }
-            store(text, words, n);
-            Count::Is(n)
-        }
-        Count::Refused(r) => Count::Refused(r),
+    let n = count_words(text)?;
+    if words.len() < n {
+        return Err(Refusal::NoRoom);
     }
+    store(text, &mut words[..n]);
+    Ok(n)
 }
 
-// Whether the line of the eight words from `from` on is good. A short last line is bad whatever its words.
-fn row_at(words: &[i64], from: usize) -> bool
-    requires { from ≤ length words.now }
-    ensures { result ≡ good_row (take 8 (drop from words.now)) }
+// Whether the eight words of a line have a text. All are tested, which takes no branch.
+#[tactic(auto, using(crate::proofs::WriteLoops::testing_steps))]
+fn good_row(row: &[i64; 8]) -> bool
+    ensures { result ≡ good_row row.now }
 {
-    if words.len() - from < 8 {
-        return false;
-    }
     let mut good = true;
-    let mut j = 0;
-    while j < 8 {
-        let w = words[from + j];
-        good = good & decimal::has_text(w);
-        j += 1;
+    for w in row {
+        good &= decimal::has_text(*w);
     }
     good
 }
 
-// How many lines come before the first one that has no text.
+// How many lines come before the first one that has no text. A short last line has none whatever its words.
+#[tactic(auto, using(crate::proofs::WriteLoops::passing_steps))]
 fn good_rows(words: &[i64]) -> usize
     ensures { result ≡ before good_row (rows_of words.now) }
 {
-    let mut from = 0;
-    let mut k: usize = 0;
-    while from < words.len() {
-        if !row_at(words, from) {
+    let (rows, _) = words.as_chunks::<8>();
+    for (k, row) in rows.iter().enumerate() {
+        if !good_row(row) {
             return k;
         }
-        from += 8;
-        k += 1;
     }
-    k
+    rows.len()
 }
 
 // The number of bytes in the words' text.
+#[tactic(auto, using(crate::proofs::WriteLoops::counting_steps))]
 fn count_bytes(words: &[i64]) -> usize
     requires { all good_row (rows_of words.now) ≡ true }
     ensures { result ≡ length (text_of words.now) }
 {
     let mut n = 0;
-    let mut i = 0;
-    while i < words.len() {
-        n += decimal::size(words[i]) + 1;
-        i += 1;
+    for w in words {
+        n += decimal::size(*w) + 1;
     }
     n
 }
 
 // Whether the text fits. A word takes at most twelve bytes, so that where there is so much room, none is counted.
+#[tactic(auto, using(crate::proofs::WriteLoops::text_most))]
 fn has_room(words: &[i64], room: usize) -> bool
     requires { all good_row (rows_of words.now) ≡ true }
     ensures { result ≡ leb (length (text_of words.now)) room }
@@ -158,29 +122,29 @@ fn has_room(words: &[i64], room: usize) -> bool
 }
 
 // The last pass of `write`: the words have a text, and there is room for it. The answer is how many bytes it has.
+#[tactic(auto, using(crate::proofs::WriteLoops::putting_steps))]
 fn put(words: &[i64], text: &mut [u8]) -> usize
     requires { (all good_row (rows_of words.now) ≡ true) × (length (text_of words.now) ≤ length text.old) }
     ensures { (result ≡ length (text_of words.now)) × (text.new ≡ sets text.old 0 (text_of words.now)) }
 {
     let mut at = 0;
-    let mut i = 0;
-    while i < words.len() {
-        at = decimal::put_field(text, at, words[i], ending(i));
-        i += 1;
+    for (i, w) in words.iter().enumerate() {
+        at = decimal::put_field(text, at, *w, ending(i));
     }
     at
 }
 
 // Writes the text of words. The answer is how many bytes it has. On refusal, and past the result, `text` stays as it was.
-pub fn write(words: &[i64], text: &mut [u8]) -> Count
+#[tactic(auto, using(crate::proofs::WriteLoops::write_steps), unfolding(crate::specs::Calls::write_answer, crate::specs::Calls::write_buffer))]
+pub fn write(words: &[i64], text: &mut [u8]) -> Result<usize, Refusal>
     ensures { (result ≡ write_answer words.now (length text.old)) × (text.new ≡ write_buffer words.now text.old) }
 {
     let lines = good_rows(words);
     if lines * 8 != words.len() {
-        return Count::Refused(Refusal::Line(lines));
+        return Err(Refusal::Line(lines));
     }
     if !has_room(words, text.len()) {
-        return Count::Refused(Refusal::NoRoom);
+        return Err(Refusal::NoRoom);
     }
-    Count::Is(put(words, text))
+    Ok(put(words, text))
 }

@@ -17,14 +17,12 @@ use Rattle.tables.proofs.Bools.{and_left, and_right, not_flip}
 use Rattle.tables.proofs.Scans.{sum_zero, sum_suc, below_suc}
 use Rattle.layout.specs.declared.Header.{Header}
 use Rattle.layout.specs.Header.{header_of}
-use Rattle.node.specs.declared.Kids.{Kids}
-use Rattle.node.specs.Judged.{kids}
 use Rattle.records.specs.Accepted.{Accepted}
 use Rattle.records.specs.Nodes.{children_of, tree_of, named_by_nodes}
 use Rattle.records.proofs.NodeLaws.{node_ok, tree_is}
 use Rattle.tree.specs.Inner.{children_at, NodeAt}
 use Rattle.tree.specs.Sizes.{tree_size}
-use Rattle.tree.proofs.TreeLaws.{none_named, one_named, two_named}
+use Rattle.tree.proofs.TreeLaws.{named}
 
 -- ---- a sum without one of its numbers
 
@@ -142,24 +140,23 @@ module _ {s : List ℤ} {base n : ℕ} (v : NodeAt s base n) where
   pub size_few : sized n ≤ 1024
   size_few = omega (arith, size_small s (header_of s) v.accepted n v.exists, v.accepted.sized.limits.nodes, v.exists)
 
-  module _ (c : Kids) (k : kids c ≡ children_at s (base + n)) where
-    pub count_none : c.count ≡ 0 → 1 ≡ sized n
-    unfolding tree_size joined
-    count_none e = sym (rw (none_named v c k e) at (size_parts s (header_of s) v.accepted n v.exists))
+  pub count_none : [] ≡ children_at s (base + n) → 1 ≡ sized n
+  unfolding tree_size joined
+  count_none k = sym (rw (named v k) at (size_parts s (header_of s) v.accepted n v.exists))
 
-    pub count_one : c.count ≡ 1 → 1 + sized c.first ≡ sized n
-    unfolding tree_size joined
-    count_one e =
-        let t = tree_of s (header_of s) in
-        omega (arith, rw (one_named v c k e) at (size_parts s (header_of s) v.accepted n v.exists), length-append (t c.first) [])
+  pub count_one : (a : ℕ) → (a ∷ []) ≡ children_at s (base + n) → 1 + sized a ≡ sized n
+  unfolding tree_size joined
+  count_one a k =
+      let t = tree_of s (header_of s) in
+      omega (arith, rw (named v k) at (size_parts s (header_of s) v.accepted n v.exists), length-append (t a) [])
 
-    pub count_two : (c.count ≡ 0 → ⊥) → (c.count ≡ 1 → ⊥) → 1 + sized c.first + sized c.second ≡ sized n
-    unfolding tree_size joined
-    count_two d e =
-        let t = tree_of s (header_of s) in
-        omega (
-          arith,
-          rw (two_named v c k d e) at (size_parts s (header_of s) v.accepted n v.exists),
-          length-append (t c.first) (t c.second ++ []),
-          length-append (t c.second) [],
-        )
+  pub count_two : (a b : ℕ) → (a ∷ b ∷ []) ≡ children_at s (base + n) → 1 + sized a + sized b ≡ sized n
+  unfolding tree_size joined
+  count_two a b k =
+      let t = tree_of s (header_of s) in
+      omega (
+        arith,
+        rw (named v k) at (size_parts s (header_of s) v.accepted n v.exists),
+        length-append (t a) (t b ++ []),
+        length-append (t b) [],
+      )

@@ -1,8 +1,7 @@
 -- 01, "Reports": the path that follows the one at a buffer's head, a path's answer, and a path in a buffer.
 -- Assumes nothing.
 use Rattle.std.specs.Prelude.{Bool, true, false, ◌&&◌, List, [], ◌∷◌, ◌++◌, ℕ, ◌-◌, ℤ, length, replicate, eqb}
-use Rattle.answer.specs.declared.Counted.{Counted}
-use Rattle.answer.specs.declared.Counted.TheVariants.{Is as Walked}
+use Rattle.answer.specs.Answers.{tallied, Counted}
 use Rattle.layout.specs.declared.Header.{Header}
 use Rattle.walks.specs.Paths.{terminal}
 
@@ -30,7 +29,7 @@ following (p ∷ ps) b = elim (begins p b) [ true ↦ head_of ps | false ↦ fol
 
 -- a path's answer: its terminal and its length
 abbrev pub walk_of : List ℤ → Header → List ℕ → Counted
-walk_of s h p = Walked (terminal s h p) (length p)
+walk_of s h p = tallied (terminal s h p) (length p)
 
 -- the buffer with a path at its start and 0 past it
 unfoldable pub laid : List ℕ → List ℕ → List ℕ

@@ -4,7 +4,7 @@ use Rattle.std.specs.Prelude.{true, false, List, [], ◌∷◌, ℕ, ◌-◌, �
 use Rattle.layout.specs.declared.Header.{Header}
 use Rattle.records.specs.Accepted.{Accepted}
 use Rattle.walks.specs.Paths.{steps_of, WholeList, onward, paths_from}
-use Rattle.layout.specs.Tables.{flow, step, step_start_of}
+use Rattle.layout.specs.Tables.{flow, step_start_of}
 use Rattle.records.specs.Flows.{steps_end}
 use Rattle.walks.specs.declared.Walker.{Walker}
 use Rattle.walks.specs.Walkers.{taken}

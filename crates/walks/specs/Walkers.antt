@@ -1,8 +1,7 @@
 -- Walks along a flow: "one step of a flow hands on the next step, or the terminal".
 -- Assumes nothing.
 use Rattle.std.specs.Prelude.{false, List, ℕ, ◌+◌, ℤ}
-use Rattle.answer.specs.declared.Counted.{Counted}
-use Rattle.answer.specs.declared.Counted.TheVariants.{Is as Walked}
+use Rattle.answer.specs.Answers.{tallied, Counted}
 use Rattle.layout.specs.declared.Header.{Header}
 use Rattle.layout.specs.Tables.{flow, step_start_of}
 use Rattle.walks.specs.declared.Walker.{Walker}
@@ -18,4 +17,4 @@ taken s h w r = record { step = target s h r; length = w.length + 1; finished = 
 
 -- the answer of a walk that is finished: the terminal, and how many routes were taken
 abbrev pub arrived : Walker → Counted
-arrived w = Walked w.step w.length
+arrived w = tallied w.step w.length

@@ -7,30 +7,53 @@ ghost use Rattle.words.specs.Record.{word, number, record_at, words_at, numbers_
 
 use signed::num;
 
-// A record's eight words as natural numbers.
+// A record's eight words: as they stand, since facts and nodes have words that may be negative, or as natural numbers.
 #[derive(Clone, Copy)]
-pub struct Record {
-    pub w0: usize,
-    pub w1: usize,
-    pub w2: usize,
-    pub w3: usize,
-    pub w4: usize,
-    pub w5: usize,
-    pub w6: usize,
-    pub w7: usize,
+pub struct Record<T> {
+    pub w0: T,
+    pub w1: T,
+    pub w2: T,
+    pub w3: T,
+    pub w4: T,
+    pub w5: T,
+    pub w6: T,
+    pub w7: T,
 }
 
-// A record's eight words as they stand: facts and nodes have words that may be negative.
-#[derive(Clone, Copy)]
-pub struct Words {
-    pub w0: i64,
-    pub w1: i64,
-    pub w2: i64,
-    pub w3: i64,
-    pub w4: i64,
-    pub w5: i64,
-    pub w6: i64,
-    pub w7: i64,
+impl Record<i64> {
+    // The words as natural numbers.
+    #[tactic(auto, unfolding(crate::specs::Record::numbers_of))]
+    pub fn numbers(self) -> Record<usize>
+        ensures { result ≡ numbers_of self }
+    {
+        Record {
+            w0: num(self.w0),
+            w1: num(self.w1),
+            w2: num(self.w2),
+            w3: num(self.w3),
+            w4: num(self.w4),
+            w5: num(self.w5),
+            w6: num(self.w6),
+            w7: num(self.w7),
+        }
+    }
+}
+
+impl Record<usize> {
+    // Whether the words from number `from` on are 0.
+    #[tactic(auto, unfolding(crate::specs::Record::unused))]
+    pub fn unused(self, from: usize) -> bool
+        ensures { result ≡ unused from self }
+    {
+        ((0 < from) | (self.w0 == 0))
+            & ((1 < from) | (self.w1 == 0))
+            & ((2 < from) | (self.w2 == 0))
+            & ((3 < from) | (self.w3 == 0))
+            & ((4 < from) | (self.w4 == 0))
+            & ((5 < from) | (self.w5 == 0))
+            & ((6 < from) | (self.w6 == 0))
+            & ((7 < from) | (self.w7 == 0))
+    }
 }
 
 // The word at a place of the sheet, as a natural number.
@@ -41,21 +64,12 @@ pub fn number_at(s: &[i64], i: usize) -> usize
     num(s[i])
 }
 
-pub fn record_at(s: &[i64], k: usize) -> Record
+#[tactic(auto, unfolding(crate::specs::Record::numbers_of, crate::specs::Record::record_at, crate::specs::Record::words_at))]
+pub fn record_at(s: &[i64], k: usize) -> Record<usize>
     requires { 16 + 8 * k + 8 ≤ length s.now }
     ensures { result ≡ record_at s.now k }
 {
-    let at = 16 + 8 * k;
-    Record {
-        w0: number_at(s, at),
-        w1: number_at(s, at + 1),
-        w2: number_at(s, at + 2),
-        w3: number_at(s, at + 3),
-        w4: number_at(s, at + 4),
-        w5: number_at(s, at + 5),
-        w6: number_at(s, at + 6),
-        w7: number_at(s, at + 7),
-    }
+    words_at(s, k).numbers()
 }
 
 pub fn word(s: &[i64], k: usize, j: usize) -> i64
@@ -72,11 +86,12 @@ pub fn number(s: &[i64], k: usize, j: usize) -> usize
     number_at(s, 16 + 8 * k + j)
 }
 
-pub fn words_at(s: &[i64], k: usize) -> Words
+#[tactic(auto, unfolding(crate::specs::Record::words_at))]
+pub fn words_at(s: &[i64], k: usize) -> Record<i64>
     requires { 16 + 8 * k + 8 ≤ length s.now }
     ensures { result ≡ words_at s.now k }
 {
-    Words {
+    Record {
         w0: word(s, k, 0),
         w1: word(s, k, 1),
         w2: word(s, k, 2),
@@ -86,32 +101,4 @@ pub fn words_at(s: &[i64], k: usize) -> Words
         w6: word(s, k, 6),
         w7: word(s, k, 7),
     }
-}
-
-pub fn numbers_of(w: Words) -> Record
-    ensures { result ≡ numbers_of w }
-{
-    Record {
-        w0: num(w.w0),
-        w1: num(w.w1),
-        w2: num(w.w2),
-        w3: num(w.w3),
-        w4: num(w.w4),
-        w5: num(w.w5),
-        w6: num(w.w6),
-        w7: num(w.w7),
-    }
-}
-
-pub fn unused(from: usize, r: Record) -> bool
-    ensures { result ≡ unused from r }
-{
-    ((0 < from) | (r.w0 == 0))
-        & ((1 < from) | (r.w1 == 0))
-        & ((2 < from) | (r.w2 == 0))
-        & ((3 < from) | (r.w3 == 0))
-        & ((4 < from) | (r.w4 == 0))
-        & ((5 < from) | (r.w5 == 0))
-        & ((6 < from) | (r.w6 == 0))
-        & ((7 < from) | (r.w7 == 0))
 }

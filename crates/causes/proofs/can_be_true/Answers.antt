@@ -3,8 +3,8 @@ use Rattle.causes.proofs.Causing.{node_there, range_read}
 use Rattle.causes.proofs.can_be_true.Goals as goal
 
 pub can_hold-requires : goal.can_hold-requires
-can_hold-requires c = (c.requires.accepted, node_there c.requires.accepted _ c.requires.o_lt_operations c.first_operation.ensures c.number.ensures)
+can_hold-requires c = node_there c.args.s.now.accepted _ c.requires c.first_operation.ensures c.number.ensures
 
 pub returns : goal.returns
-returns c = range_read c.requires.accepted _ c.requires.o_lt_operations c.first_operation.ensures c.number.ensures
+returns c = range_read c.args.s.now.accepted _ c.requires c.first_operation.ensures c.number.ensures
     c.can_hold.ensures

@@ -3,7 +3,4 @@ use Rattle.depth.proofs.Depths.{Deep}
 use Rattle.depth.proofs.longest.Given as goal
 
 abbrev pub invariant-loop-step : goal.invariant-loop-step
-invariant-loop-step l = Deep l.s l.h l.first l.initial.step l.depths l.step
-
-abbrev pub decreases-loop-step : goal.decreases-loop-step
-decreases-loop-step l = l.step
+invariant-loop-step l = Deep l.s.sheet.words.now l.s.sheet.header l.first l.end l.depths l.step

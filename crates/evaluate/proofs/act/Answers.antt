@@ -1,21 +1,6 @@
--- `evaluate::act` meets its contract. Assumes nothing.
-use native.Mathlib.Omega.{arith}
-use mathlib.Core.Path.{sym}
-use lib.Seq.{length-take-le}
-use borrow.Author.Rules.{rules}
+-- `evaluate::act` meets its contract: an attempt over the facts and their verdicts. Assumes nothing.
+use Rattle.evaluate.proofs.EvaluateLaws.{attemptable}
 use Rattle.evaluate.proofs.act.Goals as goal
 
-pub slice_bounds-act_on-end : goal.slice_bounds-act_on-end
-slice_bounds-act_on-end c = sym (length-take-le _ _ (omega (arith, c.requires.known.sheet.sized.limits.facts)))
-
-pub slice_bounds-act_on-end-2 : goal.slice_bounds-act_on-end-2
-slice_bounds-act_on-end-2 c = sym (length-take-le _ _ (omega (arith, c.requires.known.sheet.sized.limits.rules)))
-
-pub act_on-requires : goal.act_on-requires
-act_on-requires c = record {
-  lent_operation = c.requires;
-  facts_len = (
-    length-take-le _ _ (omega (arith, c.requires.known.sheet.sized.limits.facts)),
-    length-take-le _ _ (omega (arith, c.requires.known.sheet.sized.limits.rules)),
-  );
-}
+pub attempt-requires : goal.attempt-requires
+attempt-requires c = attemptable c.requires c.settle.ensures.lists_after c.settle.ensures.verdicts_after

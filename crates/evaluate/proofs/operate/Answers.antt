@@ -1,50 +1,28 @@
--- `evaluate::operate` meets its contract: by where its climb stops. Assumes nothing.
-use mathlib.Core.Path.{sym}
+-- `evaluate::operate` meets its contract: an attempt on the gathered states, then the writing pass. Assumes nothing.
+use mathlib.Core.Path.{refl, sym, ap, ◌∙◌}
 use native.Mathlib.Omega.{arith}
-use lib.Seq.{length-take-le}
+use Rattle.ladder.specs.Ladder.{by}
+use Rattle.instances.proofs.Gathering.{blank}
+use Rattle.instances.specs.Records.{lent_states}
+use Rattle.instances.proofs.Unchanged.{unchanged}
+use Rattle.evaluate.proofs.EvaluateLaws.{over_refused}
+use Rattle.std.proofs.lemmas.Result.{err_from_is_err_and}
 use Rattle.signed.proofs.Fit.{back}
-use Rattle.instances.proofs.Gathering.{blank, head_gathered}
-use Rattle.ladder.proofs.ClimbLaws.{stopped, worked, climbed_sheet}
-use Rattle.evaluate.proofs.EvaluateLaws.{asked, asked_records}
+use Rattle.ladder.specs.Inner.{headed}
+use Rattle.ladder.proofs.ClimbLaws.{stopped}
 use Rattle.evaluate.proofs.operate.Goals as goal
 
 pub climb_operate-requires : goal.climb_operate-requires
 climb_operate-requires c = blank
 
-pub slice_bounds-states-end : goal.slice_bounds-states-end
-slice_bounds-states-end c = let few = (climbed_sheet _ _ c.climb_operate.ensures.value c.in-At.is).sized.limits.entities in
-    omega (arith, few)
+-- a refused attempt moves no instance
+pub returns-in_err-j-clause-rs_after : goal.returns-in_err-j-clause-rs_after
+unfolding by
+returns-in_err-j-clause-rs_after c =
+    grind (arith, unchanged _ _ (lent_states c.args.rs.now c.args.is.now) c.in_ok-k.ensures.ready.faultless, over_refused _ _ _ _ _ _ _ (sym c.act.ensures.value ∙ c.in_err-j.was))
 
-pub slice_bounds-act_on_named-end : goal.slice_bounds-act_on_named-end
-slice_bounds-act_on_named-end c = let few = (climbed_sheet _ _ c.climb_operate.ensures.value c.in-At.is).sized.limits.entities in
-    sym (length-take-le _ _ (omega (arith, few, (c.climb_operate.ensures.head_gathered _ c.in-At.is).long)))
-
-pub act_on_named-requires : goal.act_on_named-requires
-act_on_named-requires c = let few = (climbed_sheet _ _ c.climb_operate.ensures.value c.in-At.is).sized.limits.entities in
-    let head = head_gathered _ _ (c.climb_operate.ensures.head_gathered _ c.in-At.is) few in record { lent_operation = rw (c.num.ensures, c.num-in-At.ensures, head) (asked _ _ _ _ _ _ c.climb_operate.ensures.value c.in-At.is); good_gathered = record { faultless = asked_records _ _ _ _ _ _ c.climb_operate.ensures.value c.in-At.is; all = head } }
-
-pub returns-in-Stopped : goal.returns-in-Stopped
-returns-in-Stopped c = let e = rw (back c.ranges.persona, back c.ranges.operation, back c.ranges.wanted)
-    at c.climb_operate.ensures.value in
-    record { value = stopped _ _ e c.in-Stopped.is; rs_after = stopped _ _ e c.in-Stopped.is }
-
-pub returns-in-At : goal.returns-in-At
-returns-in-At c = let e = rw (back c.ranges.persona, back c.ranges.operation, back c.ranges.wanted)
-    at c.climb_operate.ensures.value in
-    let v = rw (
-      c.num.ensures,
-      c.num-in-At.ensures,
-      c.wanted_of.ensures,
-      back c.ranges.persona,
-      back c.ranges.operation,
-      back c.ranges.wanted,
-    ) at c.act_on_named.ensures.value in
-    let r = rw (
-      c.num.ensures,
-      c.num-in-At.ensures,
-      c.wanted_of.ensures,
-      back c.ranges.persona,
-      back c.ranges.operation,
-      back c.ranges.wanted,
-    ) at c.act_on_named.ensures.rs_after in
-    record { value = worked _ _ e c.in-At.is v; rs_after = worked _ _ e c.in-At.is r }
+pub returns-in_err-k : goal.returns-in_err-k
+returns-in_err-k c =
+    let e = rw (back c.ranges.persona, back c.ranges.operation, back c.ranges.wanted) at (sym (ap headed c.in_err-k.was) ∙ c.climb_operate.ensures.value) in
+    let p = err_from_is_err_and c.from_residual.result c.from_residual.ensures.1 in
+    record { value = rw (p.1, p.2) (stopped _ _ e refl); rs_after = stopped _ _ e refl }

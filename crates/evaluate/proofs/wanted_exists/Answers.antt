@@ -10,11 +10,8 @@ unfolding wanted_exists
 returns-then-not-exists c = rw (sym (rw (back c.ranges.operation) at c.exists.ensures) ∙ c.if-not-exists.true)
 
 pub outcomes_of-n-requires : goal.outcomes_of-n-requires
-outcomes_of-n-requires c = (
-  c.requires.sized,
-  rw (c.num.ensures, back c.ranges.operation)
-      (ltb-true _ _ (sym (rw (back c.ranges.operation) at c.exists.ensures) ∙ c.if-not-exists.false)),
-)
+outcomes_of-n-requires c = rw (c.num.ensures, back c.ranges.operation)
+    (ltb-true _ _ (sym (rw (back c.ranges.operation) at c.exists.ensures) ∙ c.if-not-exists.false))
 
 pub returns : goal.returns
 unfolding wanted_exists

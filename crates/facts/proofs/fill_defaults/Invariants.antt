@@ -3,11 +3,8 @@ use Rattle.facts.proofs.Filled.{Filled}
 use Rattle.facts.specs.Assembled.{value_taken}
 use lib.ListN.{get_or}
 use lib.IntN.{pos}
-use Prim.Native.Nat.{ℕ, ◌-◌}
+use Prim.Native.Nat.{ℕ}
 use Rattle.facts.proofs.fill_defaults.Given as goal
 
 abbrev pub invariant-loop-k : goal.invariant-loop-k
-invariant-loop-k l = Filled (λ (j : ℕ). value_taken l.s j (get_or l.initial.values j (pos 0)) (get_or l.given j (pos 0))) (pos 0) l.initial.values l.n l.k l.values
-
-abbrev pub decreases-loop-k : goal.decreases-loop-k
-decreases-loop-k l = l.n - l.k
+invariant-loop-k l = Filled (λ (j : ℕ). value_taken l.s.sheet.words.now j (get_or l.initial.values j (pos 0)) (get_or l.given j (pos 0))) (pos 0) l.initial.values l.n l.k l.values

@@ -1,7 +1,8 @@
 -- `facts::given_in_range` meets its contract: by the elements of a list, or by the value. Assumes nothing.
 use mathlib.Core.Path.{sym, ◌∙◌}
 use native.Mathlib.Omega.{arith}
-use Rattle.signed.proofs.Fit.{back_of}
+use Rattle.std.proofs.Common.{rules, SFits, w64, get_or, pos}
+use Rattle.signed.proofs.Fit.{back}
 use Rattle.facts.specs.Faults.{good_list}
 use Rattle.facts.proofs.UsedLaws.{list_slots, list_lengths}
 use Rattle.facts.proofs.FaultLaws.{lent_list, lent_value}
@@ -28,13 +29,16 @@ good_list-requires c = (
 
 pub returns-then-is_list : goal.returns-then-is_list
 unfolding good_list
-returns-then-is_list c = let e = sym c.is_list.ensures ∙ c.if-is_list.true in
+returns-then-is_list c =
+    let e = sym c.is_list.ensures ∙ c.if-is_list.true in
+    let f : SFits w64 (get_or c.args.given.now c.args.k (pos 0)) = search rules in
+    let g : SFits w64 (get_or c.args.lengths.now c.args.used.lengths (pos 0)) = search rules in
     rw (
       c.same-flag.ensures,
-      back_of _ c.same-arg-1.given,
+      back f,
       c.good_list.ensures,
       c.num.ensures,
-      back_of _ c.num-arg-1.given,
+      back g,
       c.requires.0.used.slots,
       c.requires.0.used.lengths,
       lent_list,
@@ -42,11 +46,14 @@ returns-then-is_list c = let e = sym c.is_list.ensures ∙ c.if-is_list.true in
     )
 
 pub returns-else-is_list : goal.returns-else-is_list
-returns-else-is_list c = let e = sym c.is_list.ensures ∙ c.if-is_list.false in
+returns-else-is_list c =
+    let e = sym c.is_list.ensures ∙ c.if-is_list.false in
+    let f : SFits w64 (get_or c.args.given.now c.args.k (pos 0)) = search rules in
+    let g : SFits w64 (get_or c.args.values.now c.args.k (pos 0)) = search rules in
     rw (
       c.same-flag.ensures,
-      back_of _ c.same-arg-1.given,
+      back f,
       c.in_fact.ensures,
-      back_of _ c.in_fact-arg-1.given,
+      back g,
       lent_value,
     )

@@ -1,12 +1,6 @@
 -- `fernpocket::fernpocket_outcomes` meets its contract. Assumes nothing.
 use Rattle.reports.proofs.SmallReports.{outcomes_small}
-use Rattle.signed.proofs.Fit.{back}
-use Rattle.answer.specs.Answers.{count_answer}
-use mathlib.Core.Path.{ap, ◌∙◌}
 use Rattle.fernpocket.proofs.fernpocket_outcomes.Goals as goal
 
-pub of_count-requires : goal.of_count-requires
-of_count-requires c = rw c.look_up.ensures (outcomes_small _ _)
-
-pub returns : goal.returns
-returns c = c.of_count.ensures ∙ ap count_answer (rw (back c.ranges.operation) at c.look_up.ensures)
+pub of-requires : goal.of-requires
+of-requires c = rw c.look_up.ensures (outcomes_small _ _)

@@ -1,12 +1,6 @@
 -- `fernpocket::fernpocket_stratum` meets its contract. Assumes nothing.
 use Rattle.reports.proofs.SmallReports.{stratum_small}
-use Rattle.signed.proofs.Fit.{back}
-use Rattle.answer.specs.Answers.{count_answer}
-use mathlib.Core.Path.{ap, ◌∙◌}
 use Rattle.fernpocket.proofs.fernpocket_stratum.Goals as goal
 
-pub of_count-requires : goal.of_count-requires
-of_count-requires c = rw c.look_up.ensures (stratum_small _ _)
-
-pub returns : goal.returns
-returns c = c.of_count.ensures ∙ ap count_answer (rw (back c.ranges.rule) at c.look_up.ensures)
+pub of-requires : goal.of-requires
+of-requires c = rw c.look_up.ensures (stratum_small _ _)

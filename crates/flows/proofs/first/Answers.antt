@@ -1,18 +1,13 @@
 -- `flows::first` meets its contract: by where its climb stops. Assumes nothing.
+use mathlib.Core.Path.{refl, sym, ap, ◌∙◌}
+use Rattle.std.proofs.lemmas.Result.{err_from_is_err_and}
 use Rattle.signed.proofs.Fit.{back}
-use Rattle.ladder.proofs.ClimbLaws.{stopped, worked}
-use Rattle.flows.proofs.FlowCallLaws.{flow_lent}
+use Rattle.ladder.specs.Inner.{headed}
+use Rattle.ladder.proofs.ClimbLaws.{stopped}
 use Rattle.flows.proofs.first.Goals as goal
 
-pub first-requires : goal.first-requires
-first-requires c = rw c.num.ensures (flow_lent _ _ _ c.climb_flow.ensures c.in-At.is)
-
-pub returns-in-Stopped : goal.returns-in-Stopped
-returns-in-Stopped c = let e = rw (back c.ranges.flow) at c.climb_flow.ensures in
-    record { value = stopped _ _ e c.in-Stopped.is; path_after = stopped _ _ e c.in-Stopped.is }
-
-pub returns-in-At : goal.returns-in-At
-returns-in-At c = let e = rw (back c.ranges.flow) at c.climb_flow.ensures in
-    let w_value = rw (c.num.ensures, back c.ranges.flow) at c.first.ensures.value in
-    let w_path_after = rw (c.num.ensures, back c.ranges.flow) at c.first.ensures.path_after in
-    record { value = worked _ _ e c.in-At.is w_value; path_after = worked _ _ e c.in-At.is w_path_after }
+pub returns-in_err-k : goal.returns-in_err-k
+returns-in_err-k c =
+    let e = rw (back c.ranges.flow) at (sym (ap headed c.in_err-k.was) ∙ c.climb_flow.ensures.value) in
+    let p = err_from_is_err_and c.from_residual.result c.from_residual.ensures.1 in
+    record { value = rw (p.1, p.2) (stopped _ _ e refl); path_after = stopped _ _ e refl }

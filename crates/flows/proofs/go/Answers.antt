@@ -1,21 +1,6 @@
--- `flows::go` meets its contract. Assumes nothing.
-use native.Mathlib.Omega.{arith}
-use mathlib.Core.Path.{sym}
-use lib.Seq.{length-take-le}
-use borrow.Author.Rules.{rules}
+-- `flows::go` meets its contract: a run over the facts and their verdicts. Assumes nothing.
+use Rattle.flows.proofs.FlowCallLaws.{runnable}
 use Rattle.flows.proofs.go.Goals as goal
 
-pub slice_bounds-go_on-end : goal.slice_bounds-go_on-end
-slice_bounds-go_on-end c = sym (length-take-le _ _ (omega (arith, c.requires.known.sheet.sized.limits.facts)))
-
-pub slice_bounds-go_on-end-2 : goal.slice_bounds-go_on-end-2
-slice_bounds-go_on-end-2 c = sym (length-take-le _ _ (omega (arith, c.requires.known.sheet.sized.limits.rules)))
-
-pub go_on-requires : goal.go_on-requires
-go_on-requires c = record {
-  lent_run = c.requires;
-  facts_len = (
-    length-take-le _ _ (omega (arith, c.requires.known.sheet.sized.limits.facts)),
-    length-take-le _ _ (omega (arith, c.requires.known.sheet.sized.limits.rules)),
-  );
-}
+pub run-requires-clause-runnable : goal.run-requires-clause-runnable
+run-requires-clause-runnable c = runnable c.requires c.settle.ensures.lists_after c.settle.ensures.verdicts_after

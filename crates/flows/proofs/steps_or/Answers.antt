@@ -6,11 +6,7 @@ use Rattle.flows.proofs.FlowCallLaws.{steps_judged, steps_unjudged}
 use Rattle.flows.proofs.steps_or.Goals as goal
 
 pub steps-requires : goal.steps-requires
-steps-requires c = record {
-  sized = c.requires.sized;
-  flow_lt_flows = rw (c.num.ensures, back c.ranges.flow)
-      (ltb-true _ _ (sym (rw (back c.ranges.flow) at c.exists.ensures) ∙ c.if-exists.true));
-}
+steps-requires c = rw (c.num.ensures, back c.ranges.flow) (ltb-true _ _ (sym (rw (back c.ranges.flow) at c.exists.ensures) ∙ c.if-exists.true))
 
 pub returns-then-exists : goal.returns-then-exists
 returns-then-exists c = rw (c.steps.ensures, c.num.ensures, back c.ranges.flow)

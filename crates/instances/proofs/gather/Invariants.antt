@@ -1,11 +1,7 @@
 -- `instances::gather` meets its contract: record by record. Assumes nothing.
-use Prim.Native.Nat.{◌-◌, ◌≤◌}
 use Rattle.instances.specs.Records.{lent_states}
 use Rattle.instances.specs.Inner.{Gathered}
 use Rattle.instances.proofs.gather.Given as goal
 
 abbrev pub invariant-loop-i : goal.invariant-loop-i
-invariant-loop-i l = (l.i ≤ l.n) × Gathered (lent_states l.rs l.is) l.i l.states l.found
-
-abbrev pub decreases-loop-i : goal.decreases-loop-i
-decreases-loop-i l = l.n - l.i
+invariant-loop-i l = Gathered (lent_states l.rs l.is) l.i l.states l.found

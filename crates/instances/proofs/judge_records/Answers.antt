@@ -1,7 +1,6 @@
-use Prim.Native.Nat.{◌-◌}
+-- `instances::judge_records` meets its contract. Assumes nothing.
+use Rattle.std.proofs.Common.{ap, not}
 use Rattle.instances.proofs.Judging.{none_judged, one_more, bad_record, none_bad}
-use mathlib.Core.Bool.{not}
-use mathlib.Core.Path.{ap}
 use Rattle.instances.proofs.judge_records.Goals as goal
 
 pub loop-i-init : goal.loop-i-init

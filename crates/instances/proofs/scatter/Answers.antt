@@ -1,4 +1,4 @@
-use Prim.Native.Nat.{◌-◌}
+-- `instances::scatter` meets its contract. Assumes nothing.
 use Rattle.instances.proofs.Scattering.{none_scattered, one_scattered, all_scattered}
 use Rattle.instances.proofs.scatter.Goals as goal
 

@@ -1,14 +1,10 @@
--- `kinds::compare` meets its contract. Assumes nothing.
-use Rattle.signed.proofs.Fit.{back, back_of}
+-- `kinds::compare` meets its contract: there is no comparison past 5. Assumes nothing.
+use Rattle.std.proofs.Common.{rules, SFits, w64}
+use Rattle.signed.proofs.Fit.{back}
+use Rattle.signed.proofs.Pairs.{holds_unknown}
 use Rattle.kinds.proofs.compare.Goals as goal
 
-pub returns : goal.returns
-returns c = rw (
-  back_of c.bit.result c.bit.type_inv,
-  c.bit.ensures,
-  c.holds.ensures,
-  c.num.ensures,
-  back_of c.args.w.w1 c.struct_told-1.given.1.0.1,
-  back c.ranges.x,
-  back c.ranges.y,
-)
+pub returns-in-Err : goal.returns-in-Err
+returns-in-Err c =
+    let f : SFits w64 c.args.w.w1 = search rules in
+    rw (holds_unknown _ c.args.x c.args.y (rw (c.num.ensures, back f) at c.in-Err.ensures.1))

@@ -1,104 +1,77 @@
 -- `kinds::joint_from` meets its contract. Assumes nothing.
-use mathlib.Core.Path.{ap₂, sym, subst}
-use lib.IntN.{◌*ℤ◌}
+use mathlib.Core.Path.{sym}
 use native.Mathlib.Omega.{arith}
 use Rattle.item.specs.Items.{none}
 use Rattle.item.proofs.Products.{multiple_sort}
 use Rattle.node.specs.Rows.{row_of}
-use Rattle.node.proofs.OneKind.{parent_rest, parent_other}
+use Rattle.node.proofs.OneKind.{childless}
 use Rattle.signed.proofs.Fit.{back, back_of}
-use Rattle.kinds.specs.Inner.{Wide}
-use Rattle.kinds.proofs.SecondsLaws.{settle}
+use Rattle.kinds.proofs.SecondsLaws.{fits_wide, settle}
 use Rattle.kinds.proofs.SweepLaws.{unquantified}
+use Rattle.std.proofs.Common.{rules, SFits, w64}
 use Rattle.kinds.proofs.joint_from.Goals as goal
 
-pub add-requires : goal.add-requires
+pub overflow_add-result : goal.overflow_add-result
 unfolding row_of
-add-requires c = rw (back c.ranges.x, back c.ranges.y) (rw c.in-4.is at c.requires.wide)
+overflow_add-result c = rw (back c.ranges.x, back c.ranges.y) (fits_wide (rw c.in-Sum.is at c.requires.wide))
 
-pub subtract-requires : goal.subtract-requires
+pub overflow_sub-result : goal.overflow_sub-result
 unfolding row_of
-subtract-requires c = rw (back c.ranges.x, back c.ranges.y) (rw c.in-5.is at c.requires.wide)
+overflow_sub-result c = rw (back c.ranges.x, back c.ranges.y) (fits_wide (rw c.in-Difference.is at c.requires.wide))
 
-pub multiply-requires : goal.multiply-requires
+pub overflow_mul-result : goal.overflow_mul-result
 unfolding row_of
-multiply-requires c = subst Wide (sym (ap₂ ◌*ℤ◌ (back c.ranges.x) (back_of c.args.w.w2 c.struct_told-1.given.1.1.0.1)))
-    (rw c.in-6.is at c.requires.wide)
+overflow_mul-result c =
+    let g : SFits w64 c.args.w.w2 = search rules in
+    rw (back c.ranges.x, back g) (fits_wide (rw c.in-Product.is at c.requires.wide))
 
-pub returns-in-4 : goal.returns-in-4
+pub returns-in-Sum : goal.returns-in-Sum
 unfolding row_of
-returns-in-4 c f u v i b = settle _ _ f u v i _ _ b (rw c.in-4.is (omega arith))
-    (rw (c.in-4.is, back_of c.add.result c.add.type_inv, c.add.ensures, back c.ranges.x, back c.ranges.y))
+returns-in-Sum c f u v i b = settle _ _ f u v i _ _ b (rw c.in-Sum.is (omega arith))
+    (rw (c.in-Sum.is, back c.ranges.x, back c.ranges.y) (back (fits_wide (rw c.in-Sum.is at c.requires.wide))))
 
-pub returns-in-5 : goal.returns-in-5
+pub returns-in-Difference : goal.returns-in-Difference
 unfolding row_of
-returns-in-5 c f u v i b = settle _ _ f u v i _ _ b (rw c.in-5.is (omega arith))
+returns-in-Difference c f u v i b = settle _ _ f u v i _ _ b (rw c.in-Difference.is (omega arith))
+    (rw (c.in-Difference.is, back c.ranges.x, back c.ranges.y) (back (fits_wide (rw c.in-Difference.is at c.requires.wide))))
+
+pub returns-in-Product : goal.returns-in-Product
+unfolding row_of
+returns-in-Product c f u v i b =
+    let g : SFits w64 c.args.w.w2 = search rules in
+    settle _ _ f u v i _ _ b (rw c.in-Product.is (omega (arith, multiple_sort c.args.w.w2 none)))
+    (rw (c.in-Product.is, back c.ranges.x, back g) (back (fits_wide (rw c.in-Product.is at c.requires.wide))))
+
+pub returns-in-Comparison : goal.returns-in-Comparison
+unfolding row_of
+returns-in-Comparison c f u v i b = settle _ _ f u v i _ _ b (rw c.in-Comparison.is (omega arith))
+    (rw (c.in-Comparison.is, back_of c.compare.result c.compare.type_inv, c.compare.ensures, back c.ranges.x, back c.ranges.y))
+
+pub returns-in-And : goal.returns-in-And
+unfolding row_of
+returns-in-And c f u v i b = settle _ _ f u v i _ _ b (rw c.in-And.is (omega arith))
+    (rw (c.in-And.is, back_of c.bit.result c.bit.type_inv, c.bit.ensures, c.same.ensures, c.same-in-And.ensures, back c.ranges.x, back c.ranges.y))
+
+pub returns-in-Or : goal.returns-in-Or
+unfolding row_of
+returns-in-Or c f u v i b = settle _ _ f u v i _ _ b (rw c.in-Or.is (omega arith))
     (rw (
-      c.in-5.is,
-      back_of c.subtract.result c.subtract.type_inv,
-      c.subtract.ensures,
+      c.in-Or.is,
+      back_of c.bit-in-Or.result c.bit-in-Or.type_inv,
+      c.bit-in-Or.ensures,
+      c.same-in-Or.ensures,
+      c.same-in-Or-2.ensures,
       back c.ranges.x,
       back c.ranges.y,
     ))
 
-pub returns-in-6 : goal.returns-in-6
+pub returns-in-Not : goal.returns-in-Not
 unfolding row_of
-returns-in-6 c f u v i b = settle _ _ f u v i _ _ b (rw c.in-6.is (omega (arith, multiple_sort c.args.w.w2 none)))
-    (rw (
-      c.in-6.is,
-      back_of c.multiply.result c.multiply.type_inv,
-      c.multiply.ensures,
-      back c.ranges.x,
-      back_of c.args.w.w2 c.struct_told-1.given.1.1.0.1,
-    ))
+returns-in-Not c f u v i b = settle _ _ f u v i _ _ b (rw c.in-Not.is (omega arith))
+    (rw (c.in-Not.is, back_of c.bit-in-Not.result c.bit-in-Not.type_inv, c.bit-in-Not.ensures, c.same-in-Not.ensures, back c.ranges.x))
 
-pub returns-in-7 : goal.returns-in-7
-unfolding row_of
-returns-in-7 c f u v i b = settle _ _ f u v i _ _ b (rw c.in-7.is (omega arith))
-    (rw (
-      c.in-7.is,
-      back_of c.compare.result c.compare.type_inv,
-      c.compare.ensures,
-      back c.ranges.x,
-      back c.ranges.y,
-    ))
-
-pub returns-in-8 : goal.returns-in-8
-returns-in-8 c f u v i b = absurd ((parent_other _ _ c.requires.some).1 c.in-8.is)
-
-pub returns-in-9 : goal.returns-in-9
-unfolding row_of
-returns-in-9 c f u v i b = settle _ _ f u v i _ _ b (rw c.in-9.is (omega arith))
-    (rw (
-      c.in-9.is,
-      back_of c.both_true.result c.both_true.type_inv,
-      c.both_true.ensures,
-      back c.ranges.x,
-      back c.ranges.y,
-    ))
-
-pub returns-in-10 : goal.returns-in-10
-unfolding row_of
-returns-in-10 c f u v i b = settle _ _ f u v i _ _ b (rw c.in-10.is (omega arith))
-    (rw (
-      c.in-10.is,
-      back_of c.either_true.result c.either_true.type_inv,
-      c.either_true.ensures,
-      back c.ranges.x,
-      back c.ranges.y,
-    ))
-
-pub returns-in-11 : goal.returns-in-11
-unfolding row_of
-returns-in-11 c f u v i b = settle _ _ f u v i _ _ b (rw c.in-11.is (omega arith))
-    (rw (c.in-11.is, back_of c.not_true.result c.not_true.type_inv, c.not_true.ensures, back c.ranges.x))
-
-pub returns-in-0-to-3 : goal.returns-in-0-to-3
-returns-in-0-to-3 c f u v i b = let q = unquantified _ _ c.requires.plain in
-    absurd (parent_rest _ _ c.in-0-to-3.in_default-own.rest.0.0.0.0.0.0.0.1 c.in-0-to-3.in_default-own.rest.0.0.0.0.0.0.1 c.in-0-to-3.in_default-own.rest.0.0.0.0.0.1 c.in-0-to-3.in_default-own.rest.0.0.0.0.1 c.in-0-to-3.in_default-own.rest.0.0.1 c.in-0-to-3.in_default-own.rest.0.1
-    c.in-0-to-3.in_default-own.rest.1 q.0 q.1 c.requires.some)
-
-pub returns-in-12-to-max : goal.returns-in-12-to-max
-returns-in-12-to-max c f u v i b = let q = unquantified _ _ c.requires.plain in
-    absurd (parent_rest _ _ c.in-12-to-max.in_default-own.rest.0.0.0.0.0.0.0.1 c.in-12-to-max.in_default-own.rest.0.0.0.0.0.0.1 c.in-12-to-max.in_default-own.rest.0.0.0.0.0.1 c.in-12-to-max.in_default-own.rest.0.0.0.0.1 c.in-12-to-max.in_default-own.rest.0.0.1 c.in-12-to-max.in_default-own.rest.0.1
-    c.in-12-to-max.in_default-own.rest.1 q.0 q.1 c.requires.some)
+pub returns-in_default : goal.returns-in_default
+returns-in_default c f u v i b =
+    let q = unquantified _ _ c.requires.plain in
+    absurd (c.requires.some (sym (childless _ _ c.in_default.not-Sum c.in_default.not-Difference c.in_default.not-Product c.in_default.not-Comparison
+    c.in_default.not-And c.in_default.not-Or c.in_default.not-Not (λ e. q.0 (rw e)) (λ e. q.1 (rw e)))))

@@ -1,15 +1,14 @@
--- `ladder::open_sheet` meets its contract: the checker's answer, and the header of an accepted sheet. Assumes nothing.
+-- `ladder::open_sheet` meets its contract: an accepted sheet has a header to read. Assumes nothing.
 use mathlib.Core.Path.{sym, ◌∙◌}
-use Rattle.layout.proofs.Limits.{sixteen}
-use Rattle.records.proofs.Acceptance.{header_good}
-use Rattle.ladder.proofs.ClimbLaws.{opened_done, opened_not}
+use Rattle.layout.proofs.Limits.{sixteen, sized}
+use Rattle.records.proofs.Acceptance.{header_good, accepted}
 use Rattle.ladder.proofs.open_sheet.Goals as goal
 
 pub read-requires : goal.read-requires
-read-requires c = sixteen _ (header_good _ (sym c.check.ensures ∙ c.in-Done.is))
+read-requires c = sixteen _ (header_good _ (sym c.check.ensures ∙ c.in_ok-check.was))
 
-pub returns-in-Refused : goal.returns-in-Refused
-returns-in-Refused c = opened_not _ (sym c.check.ensures ∙ c.in-Refused.is)
+pub invariant_of-sheet : goal.invariant_of-sheet
+invariant_of-sheet c = record { sized = rw c.read.ensures (sized _ (header_good _ (sym c.check.ensures ∙ c.in_ok-check.was))) }
 
-pub returns-in-Done : goal.returns-in-Done
-returns-in-Done c = rw c.read.ensures (opened_done _ (sym c.check.ensures ∙ c.in-Done.is))
+pub invariant_of-result : goal.invariant_of-result
+invariant_of-result c = record { accepted = rw c.read.ensures (accepted _ (sym c.check.ensures ∙ c.in_ok-check.was)) }

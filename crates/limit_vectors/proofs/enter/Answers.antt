@@ -1,12 +1,7 @@
--- `limit_vectors::enter` calls each function as it asks. Assumes nothing.
+-- `enter` calls each function as it asks.
 use Rattle.path_lines.proofs.Opening.{entrance_low}
-use lib.ListN.{length-replicate}
-use lib.IntN.{ℤ, pos}
-use native.Mathlib.Omega.{arith}
+use Rattle.std.proofs.Common.{refl}
 use Rattle.limit_vectors.proofs.enter.Goals as goal
 
-pub open_text-requires : goal.open_text-requires
-open_text-requires c = omega (arith, length-replicate {A = ℤ} 8000 (pos 0))
-
 pub refused-requires : goal.refused-requires
-refused-requires c = entrance_low _ c.open_text.ensures.0 c.in-Bad.is
+refused-requires g c = entrance_low _ c.in-Err.ensures.0 refl

@@ -10,4 +10,4 @@ pub returns-then-small : goal.returns-then-small
 returns-then-small c = c.judge_by_kind.ensures ∙ parent_judged _ c.small.ensures c.small-2.ensures _ c.if-small.true
 
 pub returns-else-small : goal.returns-else-small
-returns-else-small c = c.bad.ensures ∙ parent_bad _ c.small.ensures c.small-2.ensures _ c.if-small.false
+returns-else-small c = parent_bad _ c.small.ensures c.small-2.ensures _ c.if-small.false

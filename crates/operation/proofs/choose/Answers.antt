@@ -1,89 +1,100 @@
-use Rattle.operation.proofs.OutcomeLoop.{unchecked, checked_more, outset, few, next_exists, all_passed, reads, ends_early, passed_over, passed_on}
-use mathlib.Core.Path.{refl}
+-- `operation::choose` meets its contract. Assumes nothing.
+use Rattle.std.proofs.Common.{◌≡◌, ◌∙◌, sym, arith, rules}
 use Rattle.words.specs.Record.{record_at}
-use lib.Dec.{lit<}
-use Rattle.operation.proofs.Targets.{outcomes_is, has_flag, clear}
-use native.Mathlib.Omega.{arith}
-use Prim.Native.Nat.{◌-◌}
-use mathlib.Core.Path.{ap}
-use mathlib.Core.Bool.{not}
+use Rattle.operation.specs.Inner.{asks, about, FirstUnmatched}
+use Rattle.operation.proofs.OutcomeLoop.{outset, ends_in, all_passed, over_this, over_other, not_wanted, the_first, the_second}
+use Rattle.operation.proofs.Choices.{about_is, is_some_value, is_some_none}
+use Rattle.operation.proofs.Targets.{outcomes_is, clear, flagged, flags_more}
+use Rattle.operation.proofs.choose.Goals.{then-subject-j, else-subject-j, then-is_none_or+else-is_some, else-is_none_or}
 use Rattle.operation.proofs.choose.Goals as goal
 
-pub effects_of-effects-requires : goal.effects_of-effects-requires
-effects_of-effects-requires c = record { accepted = c.requires.accepted; o_lt_operations = c.requires.exists }
-
 pub outcomes-init : goal.outcomes-init
-outcomes-init c = outset c.requires _ _ c.effects_of-effects.ensures
+outcomes-init c = (omega arith, outset c.requires _ _ c.effects_of-effects.ensures)
 
-pub slice_bounds-collect-end : goal.slice_bounds-collect-end
-slice_bounds-collect-end c = refl
-
-pub collect-stop-requires : goal.collect-stop-requires
-collect-stop-requires c = record { ready = c.requires; outcome_at = (c.outcomes.invariant.start, clear) }
-
-pub loop-d-init : goal.loop-d-init
-loop-d-init c = unchecked _ _ _ _ _ _ _
+pub collect-stop-requires-clause-outcome_at : goal.collect-stop-requires-clause-outcome_at
+collect-stop-requires-clause-outcome_at c = (c.outcomes.invariant.1.start, clear)
 
 pub effect_word-n-requires : goal.effect_word-n-requires
-effect_word-n-requires c = record {
-  sized = c.requires.accepted.sized;
-  e_lt_effects = (
-    (reads c.requires _ _ _ _ _ _ _ c.outcomes.invariant c.collect-stop.ensures _ c.loop-d.invariant.order
-        c.loop-d-test.true).exists,
-    lit< tt,
-  );
-}
+effect_word-n-requires c =
+    omega (arith, c.loop-e-test.true, ends_in c.requires _ _ _ _ _ _ _ c.outcomes.invariant.1 c.collect-stop.ensures)
 
 pub bounds-found-n : goal.bounds-found-n
 unfolding record_at
-bounds-found-n c = rw c.effect_word-n.ensures (has_flag (reads c.requires _ _ _ _ _ _ _ c.outcomes.invariant c.collect-stop.ensures _
-    c.loop-d.invariant.order c.loop-d-test.true))
-
-pub overflow_add-j : goal.overflow_add-j
-overflow_add-j c = omega (arith, c.loop-d.invariant.same_j, few c.requires _ _ _ _ _ c.outcomes.invariant)
-
-pub outcomes-smaller-then-not-found-n : goal.outcomes-smaller-then-not-found-n
-outcomes-smaller-then-not-found-n c = omega (
-  arith,
-  c.loop-d.invariant.same_j,
-  outcomes_is _ _ _ _ c.effects_of-effects.ensures,
-  next_exists c.requires _ _ c.effects_of-effects.ensures _ _ _ _ c.outcomes.invariant c.if-j-outcomes.false,
-)
+bounds-found-n c =
+    let end = ends_in c.requires _ _ _ _ _ _ _ c.outcomes.invariant.1 c.collect-stop.ensures in
+    rw c.effect_word-n.ensures (omega (arith, flagged c.args.s.now.accepted c.loop-e.e (omega (arith, c.loop-e-test.true, end))))
 
 pub outcomes-preserved-then-not-found-n : goal.outcomes-preserved-then-not-found-n
 unfolding record_at
-outcomes-preserved-then-not-found-n c = passed_over c.requires _ _ _ _ _ _ _ c.outcomes.invariant c.collect-stop.ensures _ _ _ _ c.loop-d.invariant
-    c.loop-d-test.true
-    (next_exists c.requires _ _ c.effects_of-effects.ensures _ _ _ _ c.outcomes.invariant c.if-j-outcomes.false)
-    c.effect_word-n.ensures (ap not c.if-not-found-n.true) _ _ c.about-subject.ensures c.noted-blocker.ensures
+outcomes-preserved-then-not-found-n c =
+    let same = c.loop-e.invariant.1 in
+    let s : about c.args.wanted ≡ c.unwrap_or-subject.result = sym (c.unwrap_or-subject.ensures ∙ about_is _) in
+    let u : FirstUnmatched c.args.s.now.sheet.words.now c.args.s.now.sheet.header c.collect-stop.new.found c.outcomes.at c.collect-stop.result c.loop-e.e c.effect_word-n.result =
+    record {
+      low = c.loop-e.auto.e;
+      high = c.loop-e-test.true;
+      entity = c.effect_word-n.ensures;
+      unmatched = c.if-not-found-n.true;
+      earlier = c.loop-e.invariant.0;
+    } in
+    let few = c.outcomes.invariant.0 in
+    let more = c.if-j-outcomes.false in
+    elim c.if-subject-j.branch [
+      | then-subject-j w ↦ (
+        omega arith,
+        rw (same, w.blocker-is)
+            (over_this c.requires _ _ _ _ _ _ _ c.outcomes.invariant.1 c.collect-stop.ensures _ _ u (s ∙ w.if-subject-j.true ∙ same)),
+      )
+      | else-subject-j w ↦ (
+        omega arith,
+        rw (same, w.blocker-is, c.loop-e.invariant.2)
+            (over_other c.requires _ _ _ _ _ _ _ c.outcomes.invariant.1 c.collect-stop.ensures _ _ u (λ e. w.if-subject-j.false (sym s ∙ e ∙ sym same))),
+      )
+    ]
 
-pub overflow_add-d : goal.overflow_add-d
-overflow_add-d c = omega (arith, ends_early c.requires _ _ _ _ _ _ _ c.outcomes.invariant c.collect-stop.ensures)
-
-pub loop-d-smaller : goal.loop-d-smaller
-loop-d-smaller c = omega arith
-
-pub loop-d-preserved : goal.loop-d-preserved
+pub loop-e-preserved : goal.loop-e-preserved
 unfolding record_at
-loop-d-preserved c = checked_more _ _ _ _ _ _ _ _ _ _ _ c.loop-d.invariant c.loop-d-test.true c.effect_word-n.ensures (ap not c.if-not-found-n.false)
-
-pub overflow_add-j-in-outcomes : goal.overflow_add-j-in-outcomes
-overflow_add-j-in-outcomes c = omega (arith, c.loop-d.invariant.same_j, few c.requires _ _ _ _ _ c.outcomes.invariant)
-
-pub outcomes-smaller : goal.outcomes-smaller
-outcomes-smaller c = omega (
-  arith,
-  c.loop-d.invariant.same_j,
-  outcomes_is _ _ _ _ c.effects_of-effects.ensures,
-  next_exists c.requires _ _ c.effects_of-effects.ensures _ _ _ _ c.outcomes.invariant c.if-j-outcomes.false,
+loop-e-preserved c = (
+  flags_more c.args.s.now.sheet.words.now c.args.s.now.sheet.header _ _ _ c.loop-e.invariant.0 _ c.effect_word-n.ensures c.if-not-found-n.false,
+  c.loop-e.invariant.1,
+  c.loop-e.invariant.2,
 )
 
 pub outcomes-preserved : goal.outcomes-preserved
-outcomes-preserved c = passed_on c.requires _ _ _ _ _ _ _ c.outcomes.invariant c.collect-stop.ensures _ _ _ c.loop-d.invariant
-    c.loop-d-test.false
-    (next_exists c.requires _ _ c.effects_of-effects.ensures _ _ _ _ c.outcomes.invariant c.if-j-outcomes.false)
-    _ c.counted-choice.ensures
+unfolding asks record_at
+outcomes-preserved c =
+    let same = c.loop-e.invariant.1 in
+    let few = c.outcomes.invariant.0 in
+    let more = c.if-j-outcomes.false in
+    let p : asks c.args.wanted c.outcomes.j ≡ c.is_none_or.result = rw (sym same) (search rules) in
+    elim c.if-is_none_or.branch [
+      | then-is_none_or+else-is_some w ↦ (
+        omega arith,
+        rw (w.choice-is, same, c.loop-e.invariant.2)
+            (the_first c.requires _ _ _ _ _ _ _ c.outcomes.invariant.1 c.collect-stop.ensures
+            (λ d a b. c.loop-e.invariant.0 d a (omega (arith, c.loop-e-test.false))) (p ∙ w.if-is_none_or.true)
+            (is_some_none (sym w.is_some.ensures ∙ w.if-is_some.false))),
+      )
+      | else-is_none_or w ↦ (
+        omega arith,
+        rw (w.choice-is, same, c.loop-e.invariant.2)
+            (not_wanted c.requires _ _ _ _ _ _ _ c.outcomes.invariant.1 c.collect-stop.ensures
+            (λ d a b. c.loop-e.invariant.0 d a (omega (arith, c.loop-e-test.false))) (p ∙ w.if-is_none_or.false)),
+      )
+    ]
 
-pub returns : goal.returns
-returns c = rw c.placed.ensures
-    (all_passed c.requires _ _ c.effects_of-effects.ensures _ _ _ _ c.outcomes.invariant c.if-j-outcomes.true)
+pub returns-then-j-outcomes : goal.returns-then-j-outcomes
+returns-then-j-outcomes c =
+    rw c.ok_or.ensures.value (all_passed c.requires _ _ c.effects_of-effects.ensures _ _ _ (rw c.if-j-outcomes.true at c.outcomes.invariant.1))
+
+pub returns-then-is_some : goal.returns-then-is_some
+unfolding asks record_at
+returns-then-is_some c =
+    let same = c.loop-e.invariant.1 in
+    let few = c.outcomes.invariant.0 in
+    let more = c.if-j-outcomes.false in
+    let p : asks c.args.wanted c.outcomes.j ≡ c.is_none_or.result = rw (sym same) (search rules) in
+    let q = is_some_value (sym c.is_some.ensures ∙ c.if-is_some.true) in
+    the_second c.requires _ _ _ _ _ _ _ c.outcomes.invariant.1 c.collect-stop.ensures
+    (λ d a b. c.loop-e.invariant.0 d a (omega (arith, c.loop-e-test.false))) (p ∙ c.if-is_none_or.true) q.0 q.1
+    (omega (arith, outcomes_is _ _ _ _ c.effects_of-effects.ensures))

@@ -8,7 +8,7 @@ use Rattle.operation.proofs.effects_of.Goals as goal
 pub overflow_add-result : goal.overflow_add-result
 unfolding record_at
 overflow_add-result c = rw (c.operation_word-first.ensures, c.operation_word.ensures)
-    (omega (arith, (operation_ok c.requires.accepted _ c.requires.o_lt_operations).end, c.requires.accepted.sized.limits))
+    (omega (arith, (operation_ok c.args.s.now.accepted _ c.requires).end, c.args.s.now.sheet.sized.limits))
 
 pub returns : goal.returns
 unfolding effects_of record_at

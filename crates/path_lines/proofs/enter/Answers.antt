@@ -3,21 +3,21 @@ use Rattle.path_lines.proofs.Cursors.{start_past, ready_lent, first_refused_lem,
 use mathlib.Core.Path.{refl}
 use Rattle.path_lines.proofs.enter.Goals as goal
 
-pub returns-then-h-flow : goal.returns-then-h-flow
-returns-then-h-flow c = start_past c.requires.ready c.requires.flow_le_flows c.if-h-flow.true refl
+pub returns-then-s-flow : goal.returns-then-s-flow
+returns-then-s-flow c = start_past c.requires.ready c.requires.flow_le_flows c.if-s-flow.true refl
 
 pub first-requires : goal.first-requires
-first-requires c = ready_lent c.requires.ready _ c.if-h-flow.false
+first-requires c = ready_lent c.requires.ready _ c.if-s-flow.false
 
-pub shape_of-path-in-Is : goal.shape_of-path-in-Is
-shape_of-path-in-Is c = c.first.auto.path
+pub shape_of-path-in-Ok : goal.shape_of-path-in-Ok
+shape_of-path-in-Ok c = c.first.auto.path
 
-pub returns-in-Is : goal.returns-in-Is
-returns-in-Is c = start_first c.requires.ready c.if-h-flow.false c.first.ensures.value c.requires.flow_le_flows.1
-    c.in-Is.is c.first.ensures.path_after c.first.auto.path
+pub returns-in-Ok : goal.returns-in-Ok
+returns-in-Ok c = start_first c.requires.ready c.if-s-flow.false c.first.ensures.value c.requires.flow_le_flows.1
+    c.in-Ok.is c.first.ensures.path_after c.first.auto.path
 
-pub shape_of-path-in-Refused : goal.shape_of-path-in-Refused
-shape_of-path-in-Refused c = c.first.auto.path
+pub shape_of-path-in-Err : goal.shape_of-path-in-Err
+shape_of-path-in-Err c = c.first.auto.path
 
-pub returns-in-Refused : goal.returns-in-Refused
-returns-in-Refused c = absurd (first_refused_lem c.requires.ready c.if-h-flow.false c.first.ensures.value c.in-Refused.is)
+pub returns-in-Err : goal.returns-in-Err
+returns-in-Err c = absurd (first_refused_lem c.requires.ready c.if-s-flow.false c.first.ensures.value c.in-Err.is)

@@ -1,6 +1,5 @@
 use native.Mathlib.Omega.{arith}
 use Rattle.path_lines.proofs.Filling.{flow_small, terminal_small, length_some, length_fits, line_fits, filling_none, filling_more, filling_less, filling_full, filling_done}
-use Prim.Native.Nat.{◌-◌}
 use Rattle.path_lines.proofs.fill.Goals as goal
 
 pub loop-c-init : goal.loop-c-init

@@ -5,7 +5,7 @@ use Prim.Native.Nat.{◌-◌}
 use Rattle.path_lines.proofs.fill.Given as goal
 
 abbrev pub invariant-loop-c : goal.invariant-loop-c
-invariant-loop-c l = Filling l.s l.h l.initial.c l.initial.path l.initial.out l.c l.path l.n l.out
+invariant-loop-c l = Filling l.s.sheet.words.now l.s.sheet.header l.initial.c l.initial.path l.initial.out l.c l.path l.n l.out
 
 abbrev pub decreases-loop-c : goal.decreases-loop-c
 decreases-loop-c l = length l.initial.out - l.n

@@ -2,11 +2,7 @@
 use Rattle.path_lines.proofs.Writing.{Written}
 use Rattle.path_lines.specs.Output.{numbers_line}
 use lib.ListN.{take, drop}
-use Prim.Native.Nat.{◌-◌, ◌≤◌}
 use Rattle.path_lines.proofs.put_routes.Given as goal
 
 abbrev pub invariant-loop-i : goal.invariant-loop-i
-invariant-loop-i l = (l.i ≤ l.n) × Written l.initial.out l.from (numbers_line (take l.n l.path)) l.out l.at (numbers_line (drop l.i (take l.n l.path)))
-
-abbrev pub decreases-loop-i : goal.decreases-loop-i
-decreases-loop-i l = l.n - l.i
+invariant-loop-i l = Written l.initial.out l.from (numbers_line (take l.n l.path)) l.out l.at (numbers_line (drop l.i (take l.n l.path)))

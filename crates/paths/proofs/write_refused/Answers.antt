@@ -1,34 +1,21 @@
--- `paths::write_refused` meets its contract. Assumes nothing.
+-- `write_refused` meets its contract.
 use Rattle.path_lines.proofs.Opening.{refused_short}
-use lib.Seq.{length-take-le}
-use mathlib.Core.Path.{refl, sym}
-use mathlib.Core.Logic.{inl, inr}
-use native.Mathlib.Omega.{arith}
+use Rattle.path_lines.specs.Output.{refused_line}
+use Rattle.paths.proofs.Written.{put_back}
+use Rattle.std.proofs.Common.{arith, sym, length-take-le, ◌≤◌, length}
 use Rattle.paths.proofs.write_refused.Goals as goal
 
 pub refusal-n-requires : goal.refusal-n-requires
-refusal-n-requires c = (omega (arith, c.requires), omega (arith, refused_short c.args.r c.requires, c.buffer-out.ensures))
+refusal-n-requires g c = (omega (arith, c.requires), omega (arith, refused_short c.args.r c.requires))
 
-pub slice_bounds-out-end : goal.slice_bounds-out-end
-slice_bounds-out-end c = omega (
-  arith,
-  c.refusal-n.ensures.0,
-  refused_short c.args.r c.requires,
-  c.refusal-n.auto.out,
-  c.buffer-out.ensures,
-)
+pub slice_bounds-line-end : goal.slice_bounds-line-end
+slice_bounds-line-end g c = omega (arith, c.refusal-n.ensures.0, refused_short c.args.r c.requires, c.refusal-n.auto.out)
 
 pub slice_bounds-write_all-end : goal.slice_bounds-write_all-end
-slice_bounds-write_all-end c = sym (length-take-le _ _ (omega (
-  arith,
-  c.refusal-n.ensures.0,
-  refused_short c.args.r c.requires,
-  c.refusal-n.auto.out,
-  c.buffer-out.ensures,
-)))
+slice_bounds-write_all-end g c =
+    sym (length-take-le _ _ (omega (arith, c.refusal-n.ensures.0, refused_short c.args.r c.requires, c.refusal-n.auto.out)))
 
-pub returns-then-not-write_all : goal.returns-then-not-write_all
-returns-then-not-write_all c = inr refl
-
-pub returns : goal.returns
-returns c = inl refl
+pub returns-clause-bytes : goal.returns-clause-bytes
+returns-clause-bytes g c =
+    let room : length (refused_line c.args.r) ≤ 32 = omega (arith, refused_short c.args.r c.requires) in
+    rw (put_back _ _ _ c.refusal-n.ensures.0 room) at (rw c.refusal-n.ensures.1 at c.in_ok-write_all.ensures.bytes)

@@ -3,7 +3,6 @@ use Rattle.layout.specs.Header.{header_of}
 use Rattle.facts.specs.Inner.{held}
 use Rattle.kinds.proofs.SweepLaws.{Swept}
 use Rattle.predicate.specs.Units.{seconds_of}
-use Prim.Native.Nat.{◌-◌}
 use Rattle.predicate.proofs.+evaluate.Given as goal
 
 abbrev pub decreases-evaluate : goal.decreases-evaluate
@@ -11,7 +10,4 @@ decreases-evaluate l = l.n.0
 
 -- none of the elements so far decides
 abbrev pub invariant-loop-j : goal.invariant-loop-j
-invariant-loop-j l = Swept l.exists (seconds_of l.s (header_of l.s) (held l.s l.facts l.lists) l.verdicts l.c.first) l.lists l.first l.count l.j
-
-abbrev pub decreases-loop-j : goal.decreases-loop-j
-decreases-loop-j l = l.count - l.j
+invariant-loop-j l = Swept l.exists (seconds_of l.s (header_of l.s) (held l.s l.facts l.lists) l.verdicts l.a) l.lists l.first l.count l.j

@@ -4,7 +4,6 @@ use Rattle.signed.proofs.Fit.{back_of}
 use lib.Seq.{length-take-le}
 use mathlib.Core.Path.{sym, ap, ◌∙◌}
 use Rattle.predicate.proofs.VerdictLaws.{none, more, done, judging}
-use Prim.Native.Nat.{◌-◌}
 use borrow.Author.Rules.{rules}
 use Rattle.predicate.proofs.fill_verdicts.Goals as goal
 
@@ -16,7 +15,7 @@ slice_bounds-is_true-end-in-loop-k c = sym (length-take-le _ _ (search rules))
 
 pub is_true-holds-requires : goal.is_true-holds-requires
 unfolding record_at
-is_true-holds-requires c = rw c.number-when.ensures (judging c.requires.0 c.requires.1 c.loop-k.invariant c.loop-k-test.true)
+is_true-holds-requires c = rw c.number-when.ensures (judging c.args.s.now.accepted c.requires.0 c.loop-k.invariant c.loop-k-test.true)
 
 pub loop-k-preserved : goal.loop-k-preserved
 unfolding record_at

@@ -12,5 +12,5 @@ returns c = rw (
   c.same.ensures,
   back_of c.evaluate.result c.evaluate.type_inv,
   c.evaluate.ensures,
-  ← c.requires.accepted.header,
+  ← c.args.s.now.accepted.header,
 ) (true_seconds c.requires (past_end c.args.lists.now))

@@ -1,34 +1,38 @@
-use mathlib.Core.Path.{◌∙◌}
-use Prim.Native.Nat.{◌-◌}
-use Rattle.reach.proofs.Exploring.{initial_is, initial_few, outset, still_long, fewer, turns_few, onward, finished, scans_are}
+-- `reach::reachable` meets its contract. Assumes nothing.
+use Rattle.std.proofs.Common.{◌∙◌}
+use Rattle.reach.proofs.Exploring.{initial_is, initial_few, outset, state_few, fewer, turns_few, onward, finished, scans_are}
 use Rattle.reach.proofs.reachable.Goals as goal
 
-pub bounds-found-state : goal.bounds-found-state
-bounds-found-state c = initial_few c.requires.accepted _ c.requires.n_lt_entities _
-    (initial_is c.requires.accepted _ c.requires.n_lt_entities _ _ c.first_entity.ensures c.number-state.ensures)
+pub bounds-found-initial : goal.bounds-found-initial
+bounds-found-initial c = initial_few c.args.s.now.accepted _ c.requires _
+    (initial_is c.args.s.now.accepted _ c.requires _ _ c.first_entity.ensures c.number-initial.ensures)
 
-pub loop-state-init : goal.loop-state-init
-loop-state-init c = outset c.requires.accepted _ c.requires.n_lt_entities _
-    (initial_is c.requires.accepted _ c.requires.n_lt_entities _ _ c.first_entity.ensures c.number-state.ensures)
+pub loop-next-init : goal.loop-next-init
+loop-next-init c = outset c.args.s.now.accepted _ c.requires _
+    (initial_is c.args.s.now.accepted _ c.requires _ _ c.first_entity.ensures c.number-initial.ensures)
+
+pub bounds-scanned-state : goal.bounds-scanned-state
+bounds-scanned-state c = state_few c.args.s.now.accepted _ c.requires _ _ _ _ _ c.loop-next.invariant _ c.in-Some.is
 
 pub scan-scans-requires : goal.scan-scans-requires
-scan-scans-requires c = record { accepted = (c.requires.accepted, c.loop-state-test.true, turns_few c.requires.accepted _ c.requires.n_lt_entities _ _ _ _ _ c.loop-state.invariant); ready = (c.loop-state.invariant.ready, c.loop-state.invariant.found_long) }
+scan-scans-requires c =
+    record {
+      scans = (
+        state_few c.args.s.now.accepted _ c.requires _ _ _ _ _ c.loop-next.invariant _ c.in-Some.is,
+        turns_few c.args.s.now.accepted _ c.requires _ _ _ _ _ c.loop-next.invariant,
+      );
+      ready = c.loop-next.invariant.ready;
+    }
 
-pub next_open-state-requires : goal.next_open-state-requires
-next_open-state-requires c = (c.scan-scans.ensures.spread.long, still_long c.requires.accepted _ c.requires.n_lt_entities _ _ _ _ _ c.loop-state.invariant _)
+pub loop-next-smaller : goal.loop-next-smaller
+loop-next-smaller c = fewer c.args.s.now.accepted _ c.requires _ _ _ _ _ c.loop-next.invariant _ c.in-Some.is
 
-pub loop-state-smaller : goal.loop-state-smaller
-loop-state-smaller c = fewer c.requires.accepted _ c.requires.n_lt_entities _ _ _ _ _ c.loop-state.invariant c.loop-state-test.true
-
-pub loop-state-preserved : goal.loop-state-preserved
-loop-state-preserved c = onward c.requires.accepted _ c.requires.n_lt_entities _ _ _ _ _ c.loop-state.invariant _ _ _ _ c.loop-state-test.true c.scan-scans.ensures.value
-    c.scan-scans.ensures.kept c.scan-scans.ensures.spread c.next_open-state.ensures
-
-pub mask_of-requires : goal.mask_of-requires
-mask_of-requires c = c.loop-state.invariant.found_long
+pub loop-next-preserved : goal.loop-next-preserved
+loop-next-preserved c = onward c.args.s.now.accepted _ c.requires _ _ _ _ _ c.loop-next.invariant _ _ _ _ _ c.in-Some.is
+    c.scan-scans.ensures.value c.scan-scans.ensures.kept c.scan-scans.ensures.spread c.next_open-next.ensures
 
 pub returns : goal.returns
 returns c = (
-  c.mask_of.ensures ∙ finished c.requires.accepted _ c.requires.n_lt_entities _ _ _ _ _ c.loop-state.invariant c.loop-state-test.false,
-  scans_are c.requires.accepted _ c.requires.n_lt_entities _ _ _ _ _ c.loop-state.invariant c.loop-state-test.false,
+  c.mask_of.ensures ∙ finished c.args.s.now.accepted _ c.requires _ _ _ _ _ c.loop-next.invariant c.in_default.is,
+  scans_are c.args.s.now.accepted _ c.requires _ _ _ _ _ c.loop-next.invariant c.in_default.is,
 )

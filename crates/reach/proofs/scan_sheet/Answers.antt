@@ -1,49 +1,52 @@
-use mathlib.Core.Path.{sym, ap, ◌∙◌}
-use mathlib.Core.Bool.{false}
-use lib.ListN.{length, length-replicate}
-use native.Mathlib.Omega.{arith}
-use Prim.Native.Nat.{◌-◌}
-use Rattle.reach.proofs.Scanning.{states_few, none, more_own, more_other, all_kept, all_spread}
+-- `reach::scan_sheet` meets its contract. Assumes nothing.
+use Rattle.std.proofs.Common.{◌≡◌, ◌+◌, sym, ◌∙◌, ap, arith, ℕ, true, false}
+use borrow.Author.Tests.{eq-eqb, ne_eqb}
+use Rattle.words.specs.Record.{record_at}
+use Rattle.layout.specs.Tables.{transition}
+use Rattle.reach.proofs.Scanning.{states_few, none, more_own, more_other}
+use Rattle.reach.proofs.scan_sheet.Goals.{then-r-n+then-r-state, then-r-n+else-r-state, else-r-n}
 use Rattle.reach.proofs.scan_sheet.Goals as goal
 
 pub loop-k-init : goal.loop-k-init
-loop-k-init c = none _ _ _ _ _ _ c.requires.moves_value.0 c.requires.moves_value.1
+loop-k-init c = none _ _ _ _ _ _ c.requires c.told-found
 
-pub overflow_mul-at : goal.overflow_mul-at
-overflow_mul-at c = omega (
+pub offset_bounds-moves-r : goal.offset_bounds-moves-r
+offset_bounds-moves-r c = omega (
   arith,
-  states_few c.requires.accepted c.loop-k-test.true c.first_transition-base.ensures c.record_at-r.ensures,
+  states_few c.args.s.now.accepted c.loop-k-test.true c.first_transition-base.ensures c.record_at-r.ensures,
 )
 
-pub overflow_add-at : goal.overflow_add-at
-overflow_add-at c = omega (
-  arith,
-  states_few c.requires.accepted c.loop-k-test.true c.first_transition-base.ensures c.record_at-r.ensures,
-)
+pub bounds-moves-r : goal.bounds-moves-r
+bounds-moves-r c = (states_few c.args.s.now.accepted c.loop-k-test.true c.first_transition-base.ensures c.record_at-r.ensures).0
 
-pub bounds-moves-at : goal.bounds-moves-at
-bounds-moves-at c = omega (
-  arith,
-  c.loop-k.invariant.kept.long,
-  states_few c.requires.accepted c.loop-k-test.true c.first_transition-base.ensures c.record_at-r.ensures,
-)
+pub bounds-moves-r-then-r-n : goal.bounds-moves-r-then-r-n
+bounds-moves-r-then-r-n c = (states_few c.args.s.now.accepted c.loop-k-test.true c.first_transition-base.ensures c.record_at-r.ensures).1
 
-pub overflow_add-k : goal.overflow_add-k
-overflow_add-k c = omega (arith, c.loop-k-test.true, c.requires.accepted.sized.limits.transitions)
-
-pub loop-k-preserved-then-r-n : goal.loop-k-preserved-then-r-n
-loop-k-preserved-then-r-n c = more_own _ _ _ _ _ _ _ _ c.loop-k.invariant _ _ c.loop-k-test.true c.first_transition-base.ensures
-    c.record_at-r.ensures _ _ c.if-r-n.true c.leaves.ensures c.mark.ensures
-
-pub overflow_add-k-else-r-n : goal.overflow_add-k-else-r-n
-overflow_add-k-else-r-n c = omega (arith, c.loop-k-test.true, c.requires.accepted.sized.limits.transitions)
+pub bounds-found-r : goal.bounds-found-r
+bounds-found-r c = (states_few c.args.s.now.accepted c.loop-k-test.true c.first_transition-base.ensures c.record_at-r.ensures).1
 
 pub loop-k-preserved : goal.loop-k-preserved
-loop-k-preserved c = more_other _ _ _ _ _ _ _ _ c.loop-k.invariant _ _ c.loop-k-test.true c.first_transition-base.ensures
-    c.record_at-r.ensures c.if-r-n.false
+loop-k-preserved c =
+    let few = (states_few c.args.s.now.accepted c.loop-k-test.true c.first_transition-base.ensures c.record_at-r.ensures).0 in
+    let z : c.record_at-r.result ≡ transition c.args.s.now.sheet.words.now c.args.s.now.sheet.header c.loop-k.k =
+    c.record_at-r.ensures ∙ ap (λ (i : ℕ). record_at c.args.s.now.sheet.words.now (i + c.loop-k.k)) c.first_transition-base.ensures
+    in
+    elim c.if-r-n.branch [
+      | then-r-n+then-r-state w ↦
+          rw (w.moves-is, w.found-is)
+          (more_own _ _ _ _ _ _ _ _ c.loop-k.invariant _ z w.if-r-n.true few true (sym (eq-eqb _ _ w.if-r-state.true)))
+      | then-r-n+else-r-state w ↦
+          rw (w.moves-is, w.found-is)
+          (more_own _ _ _ _ _ _ _ _ c.loop-k.invariant _ z w.if-r-n.true few false (sym (ne_eqb _ _ w.if-r-state.false)))
+      | else-r-n w ↦ rw (w.moves-is, w.found-is) (more_other _ _ _ _ _ _ _ _ c.loop-k.invariant _ z w.if-r-n.false)
+    ]
 
-pub shape_of-moves : goal.shape_of-moves
-shape_of-moves c = c.loop-k.invariant.kept.long ∙ sym (ap length c.requires.moves_value.0 ∙ length-replicate 256 false)
+pub returns-clause-kept : goal.returns-clause-kept
+returns-clause-kept c =
+    let e : c.loop-k.k ≡ c.args.s.now.sheet.header.transitions = omega arith in
+    record { row = rw e at c.loop-k.invariant.kept }
 
-pub returns : goal.returns
-returns c = record { kept = all_kept _ _ _ _ _ _ _ _ c.loop-k.invariant c.loop-k-test.false; spread = all_spread _ _ _ _ _ _ _ _ c.loop-k.invariant c.loop-k-test.false }
+pub returns-clause-spread : goal.returns-clause-spread
+returns-clause-spread c =
+    let e : c.loop-k.k ≡ c.args.s.now.sheet.header.transitions = omega arith in
+    rw e at c.loop-k.invariant.spread

@@ -4,7 +4,7 @@ use Rattle.reports.proofs.ReportLaws.{named, state_found, state_lost}
 use Rattle.reports.proofs.state_exists.Goals as goal
 
 pub states_of-n-requires : goal.states_of-n-requires
-states_of-n-requires c = (c.requires.sized, named _ c.exists.ensures c.if-exists.true c.num.ensures)
+states_of-n-requires c = named _ c.exists.ensures c.if-exists.true c.num.ensures
 
 pub returns-then-exists : goal.returns-then-exists
 returns-then-exists c = state_found _ _ _ _ (rw (back c.ranges.entity) at c.exists.ensures) c.if-exists.true

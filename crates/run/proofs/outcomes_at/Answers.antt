@@ -9,11 +9,8 @@ returns-then-step_word-ne0 c = branch_none _ _ _ _ c.step_word.ensures c.if-step
 
 pub outcomes_of-requires : goal.outcomes_of-requires
 unfolding record_at
-outcomes_of-requires c = (
-  c.requires.accepted.sized,
-  rw c.step_word-2.ensures
-      (operation_there _ _ _ c.requires.accepted c.requires.step_lt_steps _ c.step_word.ensures c.if-step_word-ne0.false),
-)
+outcomes_of-requires c = rw c.step_word-2.ensures
+    (operation_there _ _ _ c.args.s.now.accepted c.requires _ c.step_word.ensures c.if-step_word-ne0.false)
 
 pub returns : goal.returns
 unfolding record_at

@@ -1,15 +1,13 @@
 use Rattle.run.proofs.Memory.{memo_none}
 use Rattle.run.proofs.RunLoop.{run_none, run_valid, run_step, run_room, run_few, run_route, run_later, run_word, run_more, run_less, run_short, run_done}
-use mathlib.Core.Path.{sym, ◌∙◌}
-use Prim.Native.Nat.{◌-◌}
 use native.Mathlib.Omega.{arith}
 use Rattle.run.proofs.run.Goals as goal
 
 pub start-w-requires : goal.start-w-requires
-start-w-requires c = record { sized = c.requires.runnable.lent.sheet.sized; flow_lt_flows = c.requires.runnable.lent.flow }
+start-w-requires c = c.requires.runnable.lent.flow
 
 pub loop-w-init : goal.loop-w-init
-loop-w-init c = (run_none c.requires.runnable c.start-w.ensures _, memo_none _ _ _ _)
+loop-w-init c = (run_none c.requires.runnable c.start-w.ensures _, rw c.new-memo.ensures (memo_none _ _ _ _))
 
 pub overflow_sub-w : goal.overflow_sub-w
 overflow_sub-w c = run_later c.requires.runnable c.start-w.ensures c.loop-w.invariant.0 c.loop-w-test.true
@@ -28,15 +26,14 @@ overflow_cast-path c = omega (
   c.requires.runnable.lent.sheet.sized.limits.routes,
 )
 
-pub offset_bounds-path-at : goal.offset_bounds-path-at
-offset_bounds-path-at c = omega (arith, run_few c.requires.runnable c.start-w.ensures c.loop-w.invariant.0 c.loop-w-test.true)
+pub offset_bounds-path-w : goal.offset_bounds-path-w
+offset_bounds-path-w c = omega (arith, run_few c.requires.runnable c.start-w.ensures c.loop-w.invariant.0 c.loop-w-test.true)
 
-pub bounds-path-at : goal.bounds-path-at
-bounds-path-at c = run_room c.requires.runnable c.start-w.ensures c.loop-w.invariant.0 c.loop-w-test.true
+pub bounds-path-w : goal.bounds-path-w
+bounds-path-w c = run_room c.requires.runnable c.start-w.ensures c.loop-w.invariant.0 c.loop-w-test.true
 
 pub take-w-requires : goal.take-w-requires
 take-w-requires c = record {
-  sized = c.requires.runnable.lent.sheet.sized;
   route_lt_routes = run_route c.requires.runnable c.start-w.ensures c.loop-w.invariant.0 c.loop-w-test.true c.wanted_at-want.ensures
       c.advance-route.ensures.value;
   length_bound = omega (arith, run_few c.requires.runnable c.start-w.ensures c.loop-w.invariant.0 c.loop-w-test.true);
@@ -55,12 +52,6 @@ loop-w-preserved c = (
 
 pub clear-requires : goal.clear-requires
 clear-requires c = run_short c.requires.runnable c.start-w.ensures c.loop-w.invariant.0
-
-pub shape_of-states : goal.shape_of-states
-shape_of-states c = (run_valid c.requires.runnable c.start-w.ensures c.loop-w.invariant.0).long ∙ sym c.requires.runnable.valid.long
-
-pub shape_of-path : goal.shape_of-path
-shape_of-path c = c.clear.auto.path ∙ c.loop-w.invariant.0.size
 
 pub returns : goal.returns
 returns c = let both = run_done c.requires.runnable c.start-w.ensures c.loop-w.invariant.0 c.loop-w-test.false c.clear.ensures in record { value = both.0; path_after = both.1.0; states_after = both.1.1 }

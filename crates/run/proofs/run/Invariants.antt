@@ -8,8 +8,8 @@ use lib.ListN.{length}
 use Rattle.run.proofs.run.Given as goal
 
 abbrev pub invariant-loop-w : goal.invariant-loop-w
-invariant-loop-w l = Ongoing l.s l.h (held l.s l.facts l.lists) l.verdicts l.initial.states (flow_of l.s l.h l.initial.w.step) l.wanted l.initial.path l.states l.path l.w
-    × Memo l.s l.h (held l.s l.facts l.lists) l.verdicts l.known l.holds
+invariant-loop-w l = Ongoing l.s.sheet.words.now l.s.sheet.header (held l.s.sheet.words.now l.facts l.lists) l.verdicts l.initial.states (flow_of l.s.sheet.words.now l.s.sheet.header l.initial.w.step) l.wanted l.initial.path l.states l.path l.w
+    × Memo l.s.sheet.words.now l.s.sheet.header (held l.s.sheet.words.now l.facts l.lists) l.verdicts l.memo.known
 
 abbrev pub decreases-loop-w : goal.decreases-loop-w
 decreases-loop-w l = length l.initial.path - l.w.length

@@ -10,8 +10,8 @@ returns-then-step_word-ne0 c = record { value = branch_covers _ _ _ c.step_word.
 
 pub bounds-seen-o : goal.bounds-seen-o
 unfolding record_at
-bounds-seen-o c = seen_there _ _ _ c.requires.accepted.sized c.requires.seen
-    (operation_named_lem _ _ _ c.step_word.ensures c.requires.accepted c.requires.step_lt_steps c.if-step_word-ne0.false
+bounds-seen-o c = seen_there _ _ _ c.args.s.now.sheet.sized c.requires.seen
+    (operation_named_lem _ _ _ c.step_word.ensures c.args.s.now.accepted c.requires.step_lt_steps c.if-step_word-ne0.false
     c.step_word-o.ensures)
 
 pub returns-then-seen-o : goal.returns-then-seen-o
@@ -24,23 +24,20 @@ returns-then-seen-o c = record {
 
 pub covers-b-requires : goal.covers-b-requires
 unfolding record_at
-covers-b-requires c = record {
-  accepted = c.requires.accepted;
-  o_lt_operations = operation_named_lem _ _ _ c.step_word.ensures c.requires.accepted c.requires.step_lt_steps c.if-step_word-ne0.false
-      c.step_word-o.ensures;
-}
+covers-b-requires c = operation_named_lem _ _ _ c.step_word.ensures c.args.s.now.accepted c.requires.step_lt_steps c.if-step_word-ne0.false
+    c.step_word-o.ensures
 
 pub bounds-seen-o-2 : goal.bounds-seen-o-2
 unfolding record_at
-bounds-seen-o-2 c = seen_there _ _ _ c.requires.accepted.sized c.requires.seen
-    (operation_named_lem _ _ _ c.step_word.ensures c.requires.accepted c.requires.step_lt_steps c.if-step_word-ne0.false
+bounds-seen-o-2 c = seen_there _ _ _ c.args.s.now.sheet.sized c.requires.seen
+    (operation_named_lem _ _ _ c.step_word.ensures c.args.s.now.accepted c.requires.step_lt_steps c.if-step_word-ne0.false
     c.step_word-o.ensures)
 
 pub returns : goal.returns
 unfolding record_at
 returns c = record {
   value = operation_covers _ _ _ c.step_word.ensures _ c.if-step_word-ne0.false c.step_word-o.ensures c.covers-b.ensures;
-  seen_2 = one_seen _ _ _ c.requires.seen (seen_there _ _ _ c.requires.accepted.sized c.requires.seen
-      (operation_named_lem _ _ _ c.step_word.ensures c.requires.accepted c.requires.step_lt_steps c.if-step_word-ne0.false
+  seen_2 = one_seen _ _ _ c.requires.seen (seen_there _ _ _ c.args.s.now.sheet.sized c.requires.seen
+      (operation_named_lem _ _ _ c.step_word.ensures c.args.s.now.accepted c.requires.step_lt_steps c.if-step_word-ne0.false
       c.step_word-o.ensures)) c.covers-b.ensures;
 }

@@ -1,11 +1,6 @@
--- `read` meets its contract. The invariant: no more numbers than the tape has room for. Assumes nothing.
-use mathlib.Core.Path.{◌≡◌}
-use Prim.Native.Nat.{◌≤◌, ◌-◌}
-use lib.ListN.{length}
+-- `read` meets its contract. The invariant: no more numbers than the tape has room for.
+use Rattle.std.proofs.Common.{◌≤◌, length}
 use Rattle.script.proofs.read.Given as goal
 
-abbrev pub invariant-loop-i : goal.invariant-loop-i
-invariant-loop-i l = (l.i ≤ length l.text) × (l.k ≤ length l.tape) × (length l.tape ≡ length l.initial.tape)
-
-abbrev pub decreases-loop-i : goal.decreases-loop-i
-decreases-loop-i l = length l.text - l.i
+abbrev pub invariant-loop-b : goal.invariant-loop-b
+invariant-loop-b l = l.k ≤ length l.tape

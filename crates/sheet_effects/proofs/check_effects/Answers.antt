@@ -1,6 +1,8 @@
-use Rattle.sheet_effects.proofs.Scan.{set_out, group, lent, end_inside, onward, found, arrived}
+use Rattle.std.proofs.lemmas.Result.{err_from_is_err_and}
+use Rattle.records.specs.Operations.{good_effect}
+use Rattle.records.proofs.Scans.{ended, wider}
+use Rattle.sheet_effects.proofs.Scan.{set_out, group, lent, end_inside, onward, arrived}
 use native.Mathlib.Omega.{arith}
-use Prim.Native.Nat.{◌-◌}
 use Rattle.sheet_effects.proofs.check_effects.Goals as goal
 
 pub loop-o-init : goal.loop-o-init
@@ -26,8 +28,8 @@ overflow_add-base-in-loop-o c = omega (arith, c.requires.0.sized.limits, c.requi
 pub number-outcomes-requires : goal.number-outcomes-requires
 number-outcomes-requires c = (omega arith, omega (arith, c.requires.0.sized.limits, c.requires.0.sized.long, c.first_operation-base.ensures))
 
-pub check_group-e-requires : goal.check_group-e-requires
-check_group-e-requires c = (
+pub check_group-requires : goal.check_group-requires
+check_group-requires c = (
   c.requires.0,
   group _ _ _ _ _ _ c.requires.0 c.loop-o.invariant c.loop-o-test.true c.first_operation-base.ensures
       c.number.ensures c.number-outcomes.ensures,
@@ -35,16 +37,14 @@ check_group-e-requires c = (
       c.number.ensures,
 )
 
-pub returns-then-e-end : goal.returns-then-e-end
-returns-then-e-end c = found _ _ _ _ _ _ c.requires.0 c.loop-o.invariant c.loop-o-test.true c.first_operation-base.ensures
-    c.number.ensures c.check_group-e.ensures c.if-e-end.true
+pub returns-in_err-check_group : goal.returns-in_err-check_group
+returns-in_err-check_group c = let p = err_from_is_err_and c.from_residual.result c.from_residual.ensures.1 in
+    rw (p.1, p.2) (wider _ _ c.in_err-check_group.ensures.value (end_inside _ _ _ _ _ _ c.requires.0 c.loop-o.invariant c.loop-o-test.true
+    c.first_operation-base.ensures c.number.ensures))
 
 pub loop-o-preserved : goal.loop-o-preserved
 loop-o-preserved c = onward _ _ _ _ _ _ c.requires.0 c.loop-o.invariant c.loop-o-test.true c.first_operation-base.ensures
-    c.number.ensures c.check_group-e.ensures c.if-e-end.false
-
-pub shape_of-seen : goal.shape_of-seen
-shape_of-seen c = c.loop-o.invariant.seen.long
+    c.number.ensures c.in_ok-check_group.ensures.seen
 
 pub returns : goal.returns
-returns c = arrived _ _ _ _ _ _ c.requires.0 c.loop-o.invariant c.loop-o-test.false
+returns c = ended _ (good_effect c.args.s.now.words.now c.args.s.now.header) _ (arrived c.requires.0 c.loop-o.invariant (omega arith))

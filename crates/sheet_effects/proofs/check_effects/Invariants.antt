@@ -1,11 +1,7 @@
 -- `sheet_effects::check_effects` meets its contract. Assumes nothing.
 use Rattle.sheet_effects.proofs.Scan.{Walk}
 use lib.ListN.{length}
-use Prim.Native.Nat.{◌-◌}
 use Rattle.sheet_effects.proofs.check_effects.Given as goal
 
 abbrev pub invariant-loop-o : goal.invariant-loop-o
-invariant-loop-o l = Walk l.s l.h (length l.initial.seen) l.o l.first l.seen
-
-abbrev pub decreases-loop-o : goal.decreases-loop-o
-decreases-loop-o l = l.n - l.o
+invariant-loop-o l = Walk l.s.words.now l.s.header (length l.initial.seen) l.o l.first l.seen

@@ -1,24 +1,23 @@
-use Rattle.records.specs.Facts.{good_fact}
-use Rattle.tables.proofs.Scanned.{fail_at, fail_none}
-use Rattle.sheet_facts.proofs.Maxes.{none, again, stop}
+use Rattle.records.proofs.Scans.{stopped, ended}
+use Rattle.sheet_facts.proofs.Maxes.{none, room, again, stop}
 use native.Mathlib.Omega.{arith}
-use Prim.Native.Nat.{◌-◌}
 use Rattle.sheet_facts.proofs.check_facts.Goals as goal
 
 pub loop-k-init : goal.loop-k-init
-loop-k-init c = (omega arith, none _)
+loop-k-init c = none _
+
+pub returns-then-not-good_alone-agrees : goal.returns-then-not-good_alone-agrees
+returns-then-not-good_alone-agrees c = stopped 0 _ _ _ (omega arith) c.loop-k-test.true c.loop-k.invariant.good
+    (stop _ _ _ c.loop-k.invariant c.record_at-r.ensures c.entry-seen.ensures c.good_alone.ensures
+    c.agrees.ensures c.if-not-good_alone-agrees.true)
+
+pub note-requires : goal.note-requires
+note-requires c = room _ _ _ c.loop-k.invariant c.record_at-r.ensures c.entry-seen.ensures c.good_alone.ensures
+    c.agrees.ensures c.if-not-good_alone-agrees.false
 
 pub loop-k-preserved : goal.loop-k-preserved
-loop-k-preserved c = (
-  omega arith,
-  again _ _ _ c.loop-k.invariant.1 c.record_at-r.ensures c.entry-seen.ensures c.good_alone.ensures
-      c.agrees.ensures c.if-good_alone-agrees.true c.note.ensures,
-)
-
-pub returns-else-good_alone-agrees : goal.returns-else-good_alone-agrees
-returns-else-good_alone-agrees c = fail_at (good_fact c.args.s.now) _ _ c.loop-k-test.true c.loop-k.invariant.1.good
-    (stop _ _ _ c.loop-k.invariant.1 c.record_at-r.ensures c.entry-seen.ensures c.good_alone.ensures
-    c.agrees.ensures c.if-good_alone-agrees.false)
+loop-k-preserved c = again _ _ _ c.loop-k.invariant c.record_at-r.ensures c.entry-seen.ensures c.good_alone.ensures
+    c.agrees.ensures c.if-not-good_alone-agrees.false c.note.ensures
 
 pub returns : goal.returns
-returns c = fail_none (good_fact c.args.s.now) _ _ c.loop-k.invariant.0 c.loop-k-test.false c.loop-k.invariant.1.good
+returns c = ended 0 _ _ (λ j l. c.loop-k.invariant.good j (omega arith))

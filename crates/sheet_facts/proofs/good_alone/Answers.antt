@@ -1,8 +1,13 @@
 -- `sheet_facts::good_alone` meets its contract. Assumes nothing.
 use Rattle.words.specs.Record.{record_at}
-use Rattle.sheet_facts.specs.Maxes.{good_alone}
 use Rattle.signed.proofs.Fit.{back_of}
+use Rattle.node.proofs.FactTypeLaws.{type_past}
+use Rattle.sheet_facts.specs.Maxes.{good_alone}
 use Rattle.sheet_facts.proofs.good_alone.Goals as goal
+
+pub returns-in_default : goal.returns-in_default
+unfolding good_alone record_at
+returns-in_default c = let unknown = type_past _ (rw c.requires.1 at c.in_default.ensures.1) in rw unknown
 
 pub returns : goal.returns
 unfolding good_alone record_at
@@ -11,7 +16,7 @@ returns c = rw (
   c.good_default.ensures,
   c.good_set.ensures,
   c.good_bounds.ensures,
-  c.valued-kind.ensures,
+  c.in-Ok.ensures,
   back_of c.word-default.result c.word-default.type_inv,
   c.word-default.ensures,
   back_of c.word-max.result c.word-max.type_inv,

@@ -1,21 +1,19 @@
-use Rattle.sheet_flows.proofs.Routes.{begin, inside, again, stop, finish}
+use Rattle.records.specs.Flows.{good_route}
+use Rattle.records.proofs.Scans.{stopped, ended}
+use Rattle.sheet_flows.proofs.Routes.{inside, again, stop}
 use native.Mathlib.Omega.{arith}
-use Prim.Native.Nat.{◌-◌}
 use Rattle.sheet_flows.proofs.check_group.Goals as goal
 
 pub loop-k-init : goal.loop-k-init
-loop-k-init c = begin _ _ _ _ (omega (arith, c.requires.1))
+loop-k-init c = record { low = omega arith; good = c.requires.2 }
 
-pub first_route-requires : goal.first_route-requires
-first_route-requires c = c.requires.0.sized.limits
-
-pub overflow_add-first_route : goal.overflow_add-first_route
-overflow_add-first_route c = omega (
+pub overflow_add-n : goal.overflow_add-n
+overflow_add-n c = omega (
   arith,
   inside _ _ _ _ _ _ _ c.requires.0 c.requires.1 c.loop-k.invariant c.loop-k-test.true,
   c.requires.0.sized.limits,
   c.requires.0.sized.long,
-  c.first_route.ensures,
+  c.first_route-base.ensures,
 )
 
 pub record_at-requires : goal.record_at-requires
@@ -24,16 +22,18 @@ record_at-requires c = omega (
   inside _ _ _ _ _ _ _ c.requires.0 c.requires.1 c.loop-k.invariant c.loop-k-test.true,
   c.requires.0.sized.limits,
   c.requires.0.sized.long,
-  c.first_route.ensures,
+  c.first_route-base.ensures,
 )
 
 pub loop-k-preserved : goal.loop-k-preserved
 loop-k-preserved c = again _ _ _ _ _ _ _ c.requires.0 c.requires.1 c.loop-k.invariant c.loop-k-test.true
-    c.first_route.ensures c.record_at.ensures c.good_route_of.ensures c.if-good_route_of.true
+    c.first_route-base.ensures c.record_at.ensures c.good_route_of.ensures c.if-not-good_route_of.false
 
-pub returns-else-good_route_of : goal.returns-else-good_route_of
-returns-else-good_route_of c = stop _ _ _ _ _ _ _ c.requires.0 c.requires.1 c.loop-k.invariant c.loop-k-test.true
-    c.first_route.ensures c.record_at.ensures c.good_route_of.ensures c.if-good_route_of.false
+pub returns-then-not-good_route_of : goal.returns-then-not-good_route_of
+returns-then-not-good_route_of c = stopped _ (good_route c.args.s.now.words.now c.args.s.now.header) _ c.loop-k.k (omega (arith, c.first_route-base.ensures))
+    c.loop-k-test.true c.loop-k.invariant.good
+    (stop _ _ _ _ _ _ _ c.requires.0 c.requires.1 c.loop-k.invariant c.loop-k-test.true
+    c.first_route-base.ensures c.record_at.ensures c.good_route_of.ensures c.if-not-good_route_of.true)
 
 pub returns : goal.returns
-returns c = finish _ _ _ _ _ c.loop-k.invariant c.loop-k-test.false
+returns c = ended _ (good_route c.args.s.now.words.now c.args.s.now.header) _ (λ j l. c.loop-k.invariant.good j (omega (arith, c.requires.1)))

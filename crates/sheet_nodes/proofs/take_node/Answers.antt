@@ -1,38 +1,19 @@
 -- `sheet_nodes::take_node` meets its contract. Assumes nothing.
-use Rattle.signed.proofs.Fit.{back_of}
-use Rattle.sheet_nodes.proofs.Leaves.{leaf_at, took_leaf}
+use mathlib.Core.Path.{◌≡◌, ◌∙◌}
+use native.Mathlib.Omega.{arith}
+use borrow.Author.Rules.{rules}
+use Rattle.signed.specs.Words.{num}
+use Rattle.records.specs.Nodes.{node_words}
+use Rattle.sheet_nodes.proofs.Scan.{no_kind}
+use Rattle.sheet_nodes.proofs.Turns.{refused}
 use Rattle.sheet_nodes.proofs.take_node.Goals as goal
 
+pub returns-in_default : goal.returns-in_default
+returns-in_default c = let e : c.num.result ≡ num (node_words c.args.s.now.words.now c.args.s.now.header c.args.n).w0 = search rules in
+    refused (no_kind _ _ _ (omega (arith, c.in_default.ensures.1, e)))
+
 pub take_leaf-requires : goal.take_leaf-requires
-take_leaf-requires c = leaf_at c.requires c.children-c.result
-    (record {
-      words = c.words_at-w.ensures;
-      kind = rw (back_of c.words_at-w.result.w0 c.struct_told-1.given.0.1) at c.num-k.ensures;
-      children = c.children-c.ensures;
-    })
-    c.if-c-eq0.true
-
-pub returns-then-c-eq0 : goal.returns-then-c-eq0
-returns-then-c-eq0 c = took_leaf c.requires c.children-c.result
-    (record {
-      words = c.words_at-w.ensures;
-      kind = rw (back_of c.words_at-w.result.w0 c.struct_told-1.given.0.1) at c.num-k.ensures;
-      children = c.children-c.ensures;
-    })
-    c.if-c-eq0.true c.take_leaf.ensures
-
-pub take_parent-requires : goal.take_parent-requires
-take_parent-requires c = record {
-  turn = (
-    c.requires,
-    record {
-      words = c.words_at-w.ensures;
-      kind = rw (back_of c.words_at-w.result.w0 c.struct_told-1.given.0.1) at c.num-k.ensures;
-      children = c.children-c.ensures;
-    },
-  );
-  fact = c.if-c-eq0.false;
-}
-
-pub returns : goal.returns
-returns c = c.take_parent.ensures
+take_leaf-requires c = let e : c.num.result ≡ num c.words_at-w.result.w0 = search rules in (
+  c.requires,
+  record { words = c.words_at-w.ensures; kind = c.in-Ok.ensures ∙ e; children = c.in-Zero.ensures },
+)

@@ -1,90 +1,53 @@
 -- `sheet_nodes::take_parent` meets its contract. Assumes nothing.
-use borrow.Author.Tests.{not-false}
-use mathlib.Core.Path.{refl}
-use Rattle.signed.proofs.Fit.{back_of}
-use Rattle.tables.proofs.Bools.{not_flip, true_false}
-use Rattle.sheet_nodes.proofs.Turns.{stop_linked, judgeable, row_parent, tops_inside, scopes_inside, stop_found, stop_nested, storable, top_room, scope_room, more, good_is_true, parent_top, parent_scope}
+use mathlib.Core.Path.{◌≡◌}
+use borrow.Author.Rules.{rules}
+use Rattle.signed.specs.Words.{num}
+use Rattle.sheet_nodes.proofs.Turns.{stop_linked, judgeable, row_parent, inside, list_few, stop_found, stop_nested, item_small, rest_small, took, refused, parent_top, parent_scope}
 use Rattle.sheet_nodes.proofs.take_parent.Goals as goal
 
-pub returns-then-not-linked : goal.returns-then-not-linked
-returns-then-not-linked c = record {
-  judged = stop_linked _ _ _ c.requires.turn.0 c.args.c c.requires.turn.1 c.linked.ensures
-      (c.if-not-linked.true);
-  filled = λ e. absurd (true_false e refl);
-}
+pub returns-then-not-links : goal.returns-then-not-links
+returns-then-not-links c = refused (stop_linked _ _ _ c.requires.0 c.args.c c.requires.1 c.links.ensures c.if-not-links.true)
 
-pub judge_joint-found-requires : goal.judge_joint-found-requires
-judge_joint-found-requires c = (
-  judgeable _ _ _ c.requires.turn.0 c.args.c c.requires.turn.1 c.linked.ensures (c.if-not-linked.false),
-  row_parent _ _ _ c.requires.turn.0 c.args.c c.requires.turn.1 c.requires.fact,
+pub judge_joint-requires : goal.judge_joint-requires
+judge_joint-requires c = (
+  judgeable _ _ _ c.requires.0 c.args.c c.requires.1 c.links.ensures c.if-not-links.false,
+  row_parent _ _ _ c.requires.0 c.args.c c.requires.1 c.requires.2,
 )
 
-pub returns-then-not-found : goal.returns-then-not-found
-returns-then-not-found c = record {
-  judged = stop_found _ _ _ c.requires.turn.0 c.args.c c.requires.turn.1 c.linked.ensures
-      (c.if-not-linked.false) c.judge_joint-found.ensures (not_flip _ c.if-not-found.true);
-  filled = λ e. absurd (true_false e refl);
-}
+pub returns-in_default : goal.returns-in_default
+returns-in_default c = refused (stop_found _ _ _ c.requires.0 c.args.c c.requires.1 c.links.ensures c.if-not-links.false c.in_default.ensures)
 
-pub scope_of-scope-requires : goal.scope_of-scope-requires
-scope_of-scope-requires c = scopes_inside _ _ _ c.requires.turn.0 c.args.c c.requires.turn.1 c.linked.ensures (c.if-not-linked.false)
-    c.judge_joint-found.ensures (not-false _ c.if-not-found.false)
-    (rw (back_of c.args.w.w1 c.struct_told-1.given.1.0.1) at c.num.ensures)
+pub scope_of-requires : goal.scope_of-requires
+scope_of-requires c = let e : c.num.result ≡ num c.args.w.w1 = search rules in (
+  inside _ _ _ c.requires.0 c.args.c c.requires.1 c.links.ensures c.if-not-links.false,
+  list_few _ _ _ c.requires.0 c.args.c c.requires.1 c.links.ensures c.if-not-links.false c.in-Some.ensures e,
+)
 
-pub returns-then-scope-eq-NESTED : goal.returns-then-scope-eq-NESTED
-returns-then-scope-eq-NESTED c = record {
-  judged = stop_nested _ _ _ c.requires.turn.0 c.args.c c.requires.turn.1 c.linked.ensures
-      (c.if-not-linked.false) c.judge_joint-found.ensures (not-false _ c.if-not-found.false)
-      (parent_scope _ _ _ c.requires.turn.0 c.args.c c.requires.turn.1 c.requires.fact
-      (rw (back_of c.args.w.w1 c.struct_told-1.given.1.0.1) at c.num.ensures)
-      c.scope_of-scope.ensures) c.if-scope-eq-NESTED.true;
-  filled = λ e. absurd (true_false e refl);
-}
+pub returns-in_default-scope_of : goal.returns-in_default-scope_of
+returns-in_default-scope_of c = let e : c.num.result ≡ num c.args.w.w1 = search rules in
+    refused (stop_nested _ _ _ c.requires.0 c.args.c c.requires.1 c.links.ensures c.if-not-links.false c.in-Some.ensures
+    (parent_scope _ _ _ c.requires.0 c.args.c c.requires.1 c.requires.2 e c.in_default-scope_of.ensures))
 
-pub top_of-top-requires : goal.top_of-top-requires
-top_of-top-requires c = tops_inside _ _ _ c.requires.turn.0 c.args.c c.requires.turn.1 c.linked.ensures (c.if-not-linked.false)
+pub keep-requires : goal.keep-requires
+keep-requires c = let e : c.num.result ≡ num c.args.w.w1 = search rules in
+    item_small _ _ _ c.requires.0 c.args.c c.requires.1 c.links.ensures c.if-not-links.false c.in-Some.ensures
+    (parent_scope _ _ _ c.requires.0 c.args.c c.requires.1 c.requires.2 e c.in-Some-scope_of.ensures)
 
-pub keep_item-requires : goal.keep_item-requires
-keep_item-requires c = storable _ _ _ c.requires.turn.0 c.args.c c.requires.turn.1 c.linked.ensures (c.if-not-linked.false)
-    c.judge_joint-found.ensures (not-false _ c.if-not-found.false)
-    (parent_scope _ _ _ c.requires.turn.0 c.args.c c.requires.turn.1 c.requires.fact
-    (rw (back_of c.args.w.w1 c.struct_told-1.given.1.0.1) at c.num.ensures) c.scope_of-scope.ensures)
-    c.if-scope-eq-NESTED.false
+pub top_of-requires : goal.top_of-requires
+top_of-requires c = inside _ _ _ c.requires.0 c.args.c c.requires.1 c.links.ensures c.if-not-links.false
 
-pub keep_byte-requires : goal.keep_byte-requires
-keep_byte-requires c = top_room _ _ _ c.requires.turn.0 c.args.c c.requires.turn.1 c.linked.ensures (c.if-not-linked.false)
-    c.judge_joint-found.ensures (not-false _ c.if-not-found.false)
-    (parent_scope _ _ _ c.requires.turn.0 c.args.c c.requires.turn.1 c.requires.fact
-    (rw (back_of c.args.w.w1 c.struct_told-1.given.1.0.1) at c.num.ensures) c.scope_of-scope.ensures)
-    c.if-scope-eq-NESTED.false
-    (parent_top _ _ _ c.requires.turn.0 c.args.c c.requires.turn.1 c.requires.fact c.top_of-top.ensures)
+pub keep-requires-2 : goal.keep-requires-2
+keep-requires-2 c = let e : c.num.result ≡ num c.args.w.w1 = search rules in
+    rest_small _ _ _ c.requires.0 c.args.c c.requires.1 c.links.ensures c.if-not-links.false c.in-Some.ensures
+    (parent_scope _ _ _ c.requires.0 c.args.c c.requires.1 c.requires.2 e c.in-Some-scope_of.ensures)
+    (parent_top _ _ _ c.requires.0 c.args.c c.requires.1 c.requires.2 c.top_of.ensures)
 
-pub keep_byte-requires-2 : goal.keep_byte-requires-2
-keep_byte-requires-2 c = scope_room _ _ _ c.requires.turn.0 c.args.c c.requires.turn.1 c.linked.ensures (c.if-not-linked.false)
-    c.judge_joint-found.ensures (not-false _ c.if-not-found.false)
-    (parent_scope _ _ _ c.requires.turn.0 c.args.c c.requires.turn.1 c.requires.fact
-    (rw (back_of c.args.w.w1 c.struct_told-1.given.1.0.1) at c.num.ensures) c.scope_of-scope.ensures)
-    c.if-scope-eq-NESTED.false
+pub name-requires : goal.name-requires
+name-requires c = inside _ _ _ c.requires.0 c.args.c c.requires.1 c.links.ensures c.if-not-links.false
 
 pub returns : goal.returns
-returns c = record {
-  judged = good_is_true _ _ _ c.requires.turn.0 c.args.c c.requires.turn.1 c.linked.ensures
-      (c.if-not-linked.false) c.judge_joint-found.ensures (not-false _ c.if-not-found.false)
-      (parent_scope _ _ _ c.requires.turn.0 c.args.c c.requires.turn.1 c.requires.fact
-      (rw (back_of c.args.w.w1 c.struct_told-1.given.1.0.1) at c.num.ensures)
-      c.scope_of-scope.ensures) c.if-scope-eq-NESTED.false
-      (parent_top _ _ _ c.requires.turn.0 c.args.c c.requires.turn.1 c.requires.fact c.top_of-top.ensures);
-  filled = λ e. rw (
-    c.keep_item.ensures.low,
-    c.keep_item.ensures.high,
-    c.keep_item.ensures.sort,
-    c.keep_byte.ensures,
-    c.keep_byte-2.ensures,
-    c.name_children.ensures,
-  ) (more _ _ _ c.requires.turn.0 c.args.c c.requires.turn.1 c.linked.ensures (c.if-not-linked.false)
-      c.judge_joint-found.ensures (not-false _ c.if-not-found.false)
-      (parent_scope _ _ _ c.requires.turn.0 c.args.c c.requires.turn.1 c.requires.fact
-      (rw (back_of c.args.w.w1 c.struct_told-1.given.1.0.1) at c.num.ensures)
-      c.scope_of-scope.ensures) c.if-scope-eq-NESTED.false
-      (parent_top _ _ _ c.requires.turn.0 c.args.c c.requires.turn.1 c.requires.fact c.top_of-top.ensures));
-}
+returns c = let e : c.num.result ≡ num c.args.w.w1 = search rules in
+    rw (c.keep.ensures, c.name.ensures, c.keep-2.ensures)
+    (took _ _ _ c.requires.0 c.args.c c.requires.1 c.links.ensures c.if-not-links.false c.in-Some.ensures
+    (parent_scope _ _ _ c.requires.0 c.args.c c.requires.1 c.requires.2 e c.in-Some-scope_of.ensures)
+    (parent_top _ _ _ c.requires.0 c.args.c c.requires.1 c.requires.2 c.top_of.ensures))

@@ -5,4 +5,4 @@ use Rattle.signed.proofs.within.Goals as goal
 
 pub returns : goal.returns
 unfolding within
-returns c = rw (c.at_most.ensures, c.at_most-2.ensures, back c.ranges.low, back c.ranges.x, back c.ranges.high)
+returns c = rw (back c.ranges.low, back c.ranges.x, back c.ranges.high)

@@ -1,11 +1,10 @@
 -- `text::good_rows` meets its contract. The loop's invariant: the lines so far are good. Assumes nothing.
-use Prim.Native.Nat.{◌-◌}
-use lib.ListN.{length}
-use Rattle.text.proofs.WriteLoops.{Passing}
+use Prim.Native.Nat.{◌+◌}
+use mathlib.Core.Path.{◌≡◌}
+use lib.ListN.{drop}
+use Rattle.std.specs.List.{prefix_len}
+use Rattle.text.specs.Lines.{good_row}
 use Rattle.text.proofs.good_rows.Given as goal
 
-abbrev pub invariant-loop-from : goal.invariant-loop-from
-invariant-loop-from l = Passing l.words l.from l.k
-
-abbrev pub decreases-loop-from : goal.decreases-loop-from
-decreases-loop-from l = length l.words - l.from
+abbrev pub invariant-loop-k : goal.invariant-loop-k
+invariant-loop-k l = prefix_len good_row l.rows ≡ l.k + prefix_len good_row (drop l.k l.rows)

@@ -1,11 +1,6 @@
 -- `tree::kids_at` meets its contract. Assumes nothing.
-use Rattle.signed.proofs.Fit.{back_of}
+use Rattle.tree.proofs.TreeLaws.{unknown_kids}
 use Rattle.tree.proofs.kids_at.Goals as goal
 
-pub returns : goal.returns
-returns c = rw (
-  c.children.ensures,
-  c.num.ensures,
-  back_of c.words_at-w.result.w0 c.struct_told-1.given.0.1,
-  c.words_at-w.ensures,
-)
+pub returns-in-Err : goal.returns-in-Err
+returns-in-Err c = unknown_kids _ _ c.in-Err.ensures.1

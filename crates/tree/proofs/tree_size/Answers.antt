@@ -3,7 +3,7 @@ use Rattle.tree.proofs.TreeLaws.{node_at_lem}
 use Rattle.tree.proofs.tree_size.Goals as goal
 
 pub size_at-requires : goal.size_at-requires
-size_at-requires c = node_at_lem c.requires.0 c.requires.1
+size_at-requires c = node_at_lem c.args.s.now.accepted c.requires
 
 pub returns : goal.returns
-returns c = rw c.requires.0.header c.size_at.ensures
+returns c = rw c.args.s.now.accepted.header c.size_at.ensures

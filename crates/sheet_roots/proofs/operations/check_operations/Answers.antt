@@ -1,47 +1,36 @@
-use Rattle.sheet_roots.proofs.OperationScan.{begin, fits, again, stop, finish}
-use Rattle.sheet_roots.proofs.Roots.{kept}
+use mathlib.Core.Path.{subst}
+use Prim.Native.Nat.{ℕ}
 use native.Mathlib.Omega.{arith}
-use Prim.Native.Nat.{◌-◌}
+use Rattle.records.specs.Operations.{good_operation}
+use Rattle.records.specs.Names.{named_by_operations}
+use Rattle.records.proofs.Scans.{stopped, ended}
+use Rattle.sheet_roots.specs.Roots.{Known}
+use Rattle.sheet_roots.proofs.OperationScan.{begin, fits, again, stop}
 use Rattle.sheet_roots.proofs.operations.check_operations.Goals as goal
 
 pub loop-k-init : goal.loop-k-init
-loop-k-init c = begin _ _ _ c.requires.3
+loop-k-init c = begin c.requires.1
 
-pub overflow_add-first_operation : goal.overflow_add-first_operation
-overflow_add-first_operation c = omega (arith, c.requires.0.limits, c.requires.0.long, c.first_operation.ensures)
-
-pub record_at-r-requires : goal.record_at-r-requires
-record_at-r-requires c = omega (arith, c.requires.0.limits, c.requires.0.long, c.first_operation.ensures)
+pub returns-then-not-good-clause-value : goal.returns-then-not-good-clause-value
+returns-then-not-good-clause-value c = stopped _ (good_operation c.args.s.now.words.now c.args.s.now.header) _ c.loop-k.k
+    (omega (arith, c.first_operation-base.ensures)) c.loop-k-test.true c.loop-k.invariant.good
+    (stop c.loop-k.invariant c.loop-k-test.true c.first_operation-base.ensures c.record_at-r.ensures c.root-rooted.ensures
+    c.good_mask.ensures c.unused.ensures c.if-not-good.true)
 
 pub overflow_add-sum : goal.overflow_add-sum
 overflow_add-sum c = omega (
   arith,
-  fits _ _ _ _ c.requires.2 c.loop-k.invariant c.loop-k-test.true
-      c.first_operation.ensures c.record_at-r.ensures c.requires.1,
-  c.requires.0.limits.effects,
+  fits c.loop-k.invariant c.loop-k-test.true c.first_operation-base.ensures c.record_at-r.ensures c.requires.0,
+  c.args.s.now.sized.limits.effects,
 )
 
-pub overflow_add-k : goal.overflow_add-k
-overflow_add-k c = omega (arith, c.loop-k-test.true, c.requires.0.limits.operations)
-
 pub loop-k-preserved : goal.loop-k-preserved
-loop-k-preserved c = again _ _ _ _ c.requires.2 c.loop-k.invariant c.loop-k-test.true
-    c.first_operation.ensures c.record_at-r.ensures c.root-rooted.ensures c.good_mask.ensures
-    c.unused.ensures c.if-good_mask-rooted.true c.mark.ensures
-
-pub shape_of-named-else-good_mask-rooted : goal.shape_of-named-else-good_mask-rooted
-shape_of-named-else-good_mask-rooted c = kept c.loop-k.invariant.names c.requires.3
-
-pub returns-else-good_mask-rooted : goal.returns-else-good_mask-rooted
-returns-else-good_mask-rooted c = record {
-  value = stop _ _ _ _ c.requires.2 c.loop-k.invariant c.loop-k-test.true
-      c.first_operation.ensures c.record_at-r.ensures c.root-rooted.ensures
-      c.good_mask.ensures c.unused.ensures c.if-good_mask-rooted.false;
-  names = λ l. absurd (omega (arith, c.loop-k-test.true));
-}
-
-pub shape_of-named : goal.shape_of-named
-shape_of-named c = kept c.loop-k.invariant.names c.requires.3
+loop-k-preserved c = again c.loop-k.invariant c.loop-k-test.true c.first_operation-base.ensures c.record_at-r.ensures
+    c.root-rooted.ensures c.good_mask.ensures c.unused.ensures c.if-not-good.false c.mark.ensures
 
 pub returns : goal.returns
-returns c = let both = finish _ _ _ _ c.loop-k.invariant c.loop-k-test.false in record { value = both.0; names = both.1 }
+returns c = record {
+  value = ended _ (good_operation c.args.s.now.words.now c.args.s.now.header) _ (λ j l. c.loop-k.invariant.good j (omega arith));
+  known = subst (λ (n : ℕ). Known c.args.s.now.words.now c.args.s.now.header (named_by_operations c.args.s.now.words.now c.args.s.now.header n) c.loop-k.trees) (omega arith)
+      c.loop-k.invariant.known;
+}

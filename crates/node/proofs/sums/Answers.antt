@@ -1,8 +1,0 @@
--- `node::sums` meets its contract. Assumes nothing.
-use Rattle.node.specs.Rows.{fits}
-use Rattle.node.specs.Judged.{judged}
-use Rattle.node.proofs.sums.Goals as goal
-
-pub returns : goal.returns
-unfolding judged fits
-returns c = rw (c.checked.ensures, c.sum.ensures, c.numbers.ensures)

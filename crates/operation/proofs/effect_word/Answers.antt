@@ -1,5 +1,0 @@
--- `operation::effect_word` meets its contract. Assumes nothing.
-use Rattle.operation.proofs.effect_word.Goals as goal
-
-pub returns : goal.returns
-returns c = rw (c.number.ensures, c.first_operation.ensures)

@@ -1,7 +1,0 @@
--- `records::states_of` meets its contract: one word of the record. Assumes nothing.
-use Rattle.words.specs.Record.{record_at}
-use Rattle.records.proofs.states_of.Goals as goal
-
-pub returns : goal.returns
-unfolding record_at
-returns c = rw (c.number.ensures, c.first_entity.ensures)

@@ -1,7 +1,0 @@
--- `walks::first_step` meets its contract. Assumes nothing.
-use Rattle.words.specs.Record.{record_at}
-use Rattle.walks.proofs.first_step.Goals as goal
-
-pub returns : goal.returns
-unfolding record_at
-returns c = rw (c.number.ensures, c.first_flow.ensures)
