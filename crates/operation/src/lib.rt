@@ -137,6 +137,9 @@ pub fn choose(
     requires { Ready s.now.sheet.words.now s.now.sheet.header states.now o.0 }
     ensures { result ≡ chosen s.now.sheet.words.now s.now.sheet.header states.now o.0 wanted }
 {
+    // A copy, for speed: behind the reference the words' place and the counts are read again for each effect, since flags are written in between.
+    let copy = *s;
+    let s = &copy;
     let effects = effects_of(s, o);
     let outcomes = effects.outcomes;
     let mut at = effects.first;
@@ -194,6 +197,9 @@ pub fn apply(s: &Contract, states: &mut [i64], o: Operation, j: usize)
     requires { Ready s.now.sheet.words.now s.now.sheet.header states.old o.0 }
     ensures { states.new ≡ applied s.now.sheet.words.now s.now.sheet.header states.old o.0 j }
 {
+    // A copy, as in `choose`.
+    let copy = *s;
+    let s = &copy;
     let effects = effects_of(s, o);
     // An entity moves once: an effect that starts from the state it moved to is not applied.
     let mut moved = [false; Header::ENTITIES];
