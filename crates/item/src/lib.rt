@@ -3,12 +3,12 @@
 
 ghost use Rattle.std.specs.Prelude.{◌≡◌, true, pos, ◌*ℤ◌};
 ghost use Rattle.signed.specs.Words.{bounded};
-ghost use Rattle.signed.specs.Compare.{operator_number};
+ghost use Rattle.signed.specs.Operators.{operator_number};
 ghost use Rattle.item.specs.Units as units;
 ghost use Rattle.item.specs.Items as items;
 ghost use Rattle.item.specs.Inner.{Small};
 
-use signed::{Comparison, bounded, minus, plus, times, to_word};
+use signed::{Comparison, bounded, can_fail, can_hold, minus, plus, times, to_word};
 
 // A type by its number, and the values from `low` to `high`, both included. The number stays one, since the definitions count in it: an Enum's
 // set, a currency and a unit are offsets in it, and of two units the greater number is the smaller unit.
@@ -174,5 +174,19 @@ impl Item {
             low: minus(1, self.high),
             high: minus(1, self.low),
         }
+    }
+}
+
+// The range of a comparison by its number; with a number that is no comparison's it is false.
+pub fn compared(op: usize, x: Item, y: Item) -> Item
+    requires { Small x × Small y }
+    ensures { result ≡ items.compared op x y }
+{
+    let fails = can_fail(op, x.low, x.high, y.low, y.high);
+    let holds = can_hold(op, x.low, x.high, y.low, y.high);
+    Item {
+        sort: 0,
+        low: i64::from(!fails),
+        high: i64::from(holds),
     }
 }

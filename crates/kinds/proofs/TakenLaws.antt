@@ -5,10 +5,10 @@ use mathlib.Core.Bool.{true}
 use Prim.Native.Nat.{ℕ, zero, suc, ◌≤◌}
 use native.Mathlib.Omega.{arith}
 use lib.IntN.{ℤ}
-use lib.Dec.{leb}
+use lib.Dec.{leb, eqb}
 use borrow.Author.Tests.{leb-true}
 use Rattle.tables.proofs.Bools.{true_false, and_left}
-use Rattle.signed.specs.Words.{num, within}
+use Rattle.signed.specs.Words.{num, within, bounded}
 use Rattle.node.specs.declared.Given.{Given}
 use Rattle.node.specs.Rows.{literal, row_of}
 use Rattle.kinds.specs.Inner.{is_literal}
@@ -38,3 +38,8 @@ part_taken (suc (suc (suc (suc (suc (suc (suc (suc (suc (suc (suc (suc (suc (suc
 part_taken (suc (suc (suc (suc (suc (suc (suc (suc (suc (suc (suc (suc (suc (suc (suc (suc zero)))))))))))))))) g p e = absurd (true_false e refl)
 part_taken (suc (suc (suc (suc (suc (suc (suc (suc (suc (suc (suc (suc (suc (suc (suc (suc (suc zero))))))))))))))))) g p e = absurd (true_false e refl)
 part_taken (suc (suc (suc (suc (suc (suc (suc (suc (suc (suc (suc (suc (suc (suc (suc (suc (suc (suc k)))))))))))))))))) g p e = absurd (true_false p refl)
+
+-- a product's literal lies in −M..M
+pub product_part : (k : ℕ) (g : Given) → (row_of k).takes g ≡ true → k ≡ 6 → bounded g.words.w2 ≡ true
+unfolding row_of
+product_part k g p e = and_left (bounded g.words.w2) (eqb g.x.sort 1) (rw e at p)

@@ -60,7 +60,7 @@ pub fn count_in(word: i64) -> usize
 // The value of a node that has no children, a duration in seconds. `words` has a word for each fact: its value or, of a list, one that tells its
 // length. `fact` is the type of the fact that the node names, which is read where it reads the fact's value; the current element stands at place
 // `at` of the lent lists. Apart from the others, for speed: only here is anything converted.
-pub fn leaf_from(
+pub fn leaf_of(
     k: Kind,
     w: Record<i64>,
     fact: usize,
@@ -83,6 +83,25 @@ pub fn leaf_from(
     }
 }
 
+// The same by the number of a kind; a node of none comes to 0.
+pub fn leaf_from(
+    k: usize,
+    w: Record<i64>,
+    fact: usize,
+    words: &[i64],
+    lists: &[i64],
+    verdicts: &[i64],
+    at: usize,
+) -> i64
+    requires { Leaf k w words.now }
+    ensures { (facts : List FactValue) (f : ℕ) (body : ℤ → ℤ) → (k ≡ 3 → fact ≡ f) → Reads k w words.now facts f → result ≡ seconds_from k w f facts verdicts.now (get_or lists.now at (pos 0)) (pos 0) (pos 0) body }
+{
+    match Kind::try_from(k) {
+        Ok(kind) => leaf_of(kind, w, fact, words, lists, verdicts, at),
+        Err(_) => 0,
+    }
+}
+
 // The value of a node that has children and is no quantifier, from theirs, each duration in seconds.
 pub fn joint_from(k: Kind, w: Record<i64>, x: i64, y: i64) -> i64
     requires { Joint (kind_number k) w x y }
@@ -102,7 +121,7 @@ pub fn joint_from(k: Kind, w: Record<i64>, x: i64, y: i64) -> i64
 
 // Whether the first child of a node already decides it.
 #[tactic(auto, unfolding(node::specs::Rows::row_of))]
-pub fn decides(k: Kind, x: i64) -> bool
+pub fn is_decided(k: Kind, x: i64) -> bool
     ensures { result ≡ (row_of (kind_number k)).decides x }
 {
     match k {
@@ -112,11 +131,31 @@ pub fn decides(k: Kind, x: i64) -> bool
     }
 }
 
+// The same by the number of a kind; a node of none is decided by no child.
+pub fn decides(k: usize, x: i64) -> bool
+    ensures { result ≡ (row_of k).decides x }
+{
+    match Kind::try_from(k) {
+        Ok(kind) => is_decided(kind, x),
+        Err(_) => false,
+    }
+}
+
 // Whether a node is a quantifier.
-pub fn quantifies(k: Kind) -> bool
+pub fn is_quantifier(k: Kind) -> bool
     ensures { result ≡ is_quantifier (kind_number k) }
 {
     matches!(k, Kind::ForAll | Kind::Exists)
+}
+
+// The same by the number of a kind; a node of none is no quantifier.
+pub fn quantifies(k: usize) -> bool
+    ensures { result ≡ is_quantifier k }
+{
+    match Kind::try_from(k) {
+        Ok(kind) => is_quantifier(kind),
+        Err(_) => false,
+    }
 }
 
 // Whether a node is "exists".

@@ -2,7 +2,7 @@
 #![tactic(auto)]
 
 ghost use Rattle.std.specs.Prelude.{◌≡◌, true, cond, ◌&&◌, [], ◌∷◌, ◌≤◌};
-ghost use Rattle.signed.specs.Compare.{operator_number};
+ghost use Rattle.signed.specs.Operators.{operator_number};
 ghost use Rattle.item.specs.Sorts.{is_number};
 ghost use Rattle.item.specs.Items.{small as small_item};
 ghost use Rattle.words.specs.Record.{numbers_of, unused as unused_words};
@@ -200,35 +200,6 @@ fn comparison(g: Given) -> Option<Item>
     }
 }
 
-// A node that has no children. Apart from the others, for speed: half of a sheet's nodes have none.
-#[tactic(auto, unfolding(crate::specs::Judged::judged, crate::specs::Rows::fits, crate::specs::Rows::row_of))]
-pub fn judge_leaf(k: Kind, g: Given) -> Option<Item>
-    requires { (rows.row_of (kind_number k)).children g.words ≡ [] }
-    ensures { result ≡ judged.judged (rows.row_of (kind_number k)) g }
-{
-    let w = g.words;
-    let f = g.fact;
-    match k {
-        Kind::IntLiteral => literal(g, 2, -1_000_000_000, 1_000_000_000, 1, 0),
-        Kind::BoolLiteral => literal(g, 2, 0, 1, 0, 0),
-        Kind::EnumLiteral => literal(g, 3, 0, 255, 2, 127),
-        Kind::Fact => checked(2, g, names_fact(g) & !f.list, f.item),
-        Kind::Present => checked(2, g, num(w.w1) < g.rules, Item::TRUTH),
-        Kind::MoneyLiteral => literal(g, 3, -1_000_000_000, 1_000_000_000, 130, 127),
-        Kind::DurationLiteral => literal(g, 3, -1_000_000_000, 1_000_000_000, 258, 3),
-        Kind::Length => {
-            let x = Item {
-                sort: 1,
-                low: 0,
-                high: f.most,
-            };
-            checked(2, g, names_list(g), x)
-        }
-        Kind::Element => checked(2, g, names_list(g), f.item),
-        _ => None,
-    }
-}
-
 // A node that has children, whose ranges lie in −M..M. "For all" and "exists" are judged alike.
 #[tactic(auto, unfolding(crate::specs::Judged::judged, crate::specs::Rows::fits, crate::specs::Rows::row_of))]
 fn judge_by_kind(k: Kind, g: Given) -> Option<Item>
@@ -250,30 +221,91 @@ fn judge_by_kind(k: Kind, g: Given) -> Option<Item>
     }
 }
 
-// A node that has children.
-pub fn judge_parent(k: Kind, g: Given) -> Option<Item>
-    requires { (rows.row_of (kind_number k)).children g.words ≡ [] → ⊥ }
-    ensures { result ≡ judged.judged_parent (rows.row_of (kind_number k)) g }
-{
-    let x = g.x;
-    let y = g.y;
-    if x.small() & y.small() {
-        judge_by_kind(k, g)
-    } else {
-        None
+impl Kind {
+    // A node that has no children. Apart from the others, for speed: half of a sheet's nodes have none.
+    #[tactic(auto, unfolding(crate::specs::Judged::judged, crate::specs::Rows::fits, crate::specs::Rows::row_of))]
+    pub fn judge_leaf(self, g: Given) -> Option<Item>
+        requires { (rows.row_of (kind_number self)).children g.words ≡ [] }
+        ensures { result ≡ judged.judged (rows.row_of (kind_number self)) g }
+    {
+        let w = g.words;
+        let f = g.fact;
+        match self {
+            Kind::IntLiteral => literal(g, 2, -1_000_000_000, 1_000_000_000, 1, 0),
+            Kind::BoolLiteral => literal(g, 2, 0, 1, 0, 0),
+            Kind::EnumLiteral => literal(g, 3, 0, 255, 2, 127),
+            Kind::Fact => checked(2, g, names_fact(g) & !f.list, f.item),
+            Kind::Present => checked(2, g, num(w.w1) < g.rules, Item::TRUTH),
+            Kind::MoneyLiteral => literal(g, 3, -1_000_000_000, 1_000_000_000, 130, 127),
+            Kind::DurationLiteral => literal(g, 3, -1_000_000_000, 1_000_000_000, 258, 3),
+            Kind::Length => {
+                let x = Item {
+                    sort: 1,
+                    low: 0,
+                    high: f.most,
+                };
+                checked(2, g, names_list(g), x)
+            }
+            Kind::Element => checked(2, g, names_list(g), f.item),
+            _ => None,
+        }
+    }
+
+    // A node that has children.
+    pub fn judge_parent(self, g: Given) -> Option<Item>
+        requires { (rows.row_of (kind_number self)).children g.words ≡ [] → ⊥ }
+        ensures { result ≡ judged.judged_parent (rows.row_of (kind_number self)) g }
+    {
+        let x = g.x;
+        let y = g.y;
+        if x.small() & y.small() {
+            judge_by_kind(self, g)
+        } else {
+            None
+        }
+    }
+
+    // The children of a node: the nodes that its words name.
+    #[tactic(auto, unfolding(crate::specs::Rows::row_of))]
+    pub fn children(self, w: Record<i64>) -> Kids
+        ensures { judged.kids result ≡ (rows.row_of (kind_number self)).children w }
+    {
+        match self {
+            Kind::Sum | Kind::Difference | Kind::And | Kind::Or => Kids::Two(num(w.w1), num(w.w2)),
+            Kind::Product | Kind::Not => Kids::One(num(w.w1)),
+            Kind::Comparison => Kids::Two(num(w.w2), num(w.w3)),
+            Kind::ForAll | Kind::Exists => Kids::One(num(w.w2)),
+            _ => Kids::Zero,
+        }
     }
 }
 
-// The children of a node: the nodes that its words name.
-#[tactic(auto, unfolding(crate::specs::Rows::row_of))]
-pub fn children(k: Kind, w: Record<i64>) -> Kids
-    ensures { judged.kids result ≡ (rows.row_of (kind_number k)).children w }
+// The same by the number of a kind: with a number that is no kind's a node is bad, and has no children.
+pub fn judge_leaf(k: usize, g: Given) -> Option<Item>
+    requires { (rows.row_of k).children g.words ≡ [] }
+    ensures { result ≡ judged.judged (rows.row_of k) g }
 {
-    match k {
-        Kind::Sum | Kind::Difference | Kind::And | Kind::Or => Kids::Two(num(w.w1), num(w.w2)),
-        Kind::Product | Kind::Not => Kids::One(num(w.w1)),
-        Kind::Comparison => Kids::Two(num(w.w2), num(w.w3)),
-        Kind::ForAll | Kind::Exists => Kids::One(num(w.w2)),
-        _ => Kids::Zero,
+    match Kind::try_from(k) {
+        Ok(kind) => kind.judge_leaf(g),
+        Err(_) => None,
+    }
+}
+
+pub fn judge_parent(k: usize, g: Given) -> Option<Item>
+    requires { (rows.row_of k).children g.words ≡ [] → ⊥ }
+    ensures { result ≡ judged.judged_parent (rows.row_of k) g }
+{
+    match Kind::try_from(k) {
+        Ok(kind) => kind.judge_parent(g),
+        Err(_) => None,
+    }
+}
+
+pub fn children(k: usize, w: Record<i64>) -> Kids
+    ensures { judged.kids result ≡ (rows.row_of k).children w }
+{
+    match Kind::try_from(k) {
+        Ok(kind) => kind.children(w),
+        Err(_) => Kids::Zero,
     }
 }

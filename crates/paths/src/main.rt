@@ -2,12 +2,12 @@
 // Where a text is refused, a list is cut or standard output fails, it says so in a line on standard error: path_lines' `said`.
 #![tactic(auto)]
 
-ghost use Rattle.std.specs.Prelude.{◌<◌, ◌≡◌, IfOk, OnOk};
+ghost use Rattle.std.specs.Prelude.{◌<◌, ◌≡◌, ◌⊎◌, IfOk, OnOk};
 ghost use Rattle.std.specs.Io.KnownBytes.{Appends};
 ghost use Rattle.answer.specs.Number.{place};
 ghost use Rattle.records.specs.Accepted.{Accepted};
 ghost use Rattle.path_lines.specs.Output.{sheet_lines, sheet_notice, refused_line, output, said};
-ghost use Rattle.path_lines.specs.declared.Notice.TheVariants.{Refused};
+ghost use Rattle.path_lines.specs.declared.Notice.TheVariants.{Refused, Unwritten};
 
 use answer::Refusal;
 use layout::{Header, Sheet};
@@ -60,6 +60,13 @@ fn write_output<W: Write>(text: &[u8], out: &mut W) -> io::Result<Notice>
     }
 }
 
+// What is said of a text: that its output could not be written, or else, its output having been written, what there is to say of it.
+fn answer<W: Write>(text: &[u8], out: &mut W) -> Notice
+    ensures { (result ≡ said text.now) × Appends (W.contents out.old) (W.contents out.new) (output text.now) ⊎ (result ≡ Unwritten) }
+{
+    write_output(text, out).unwrap_or(Notice::Unwritten)
+}
+
 fn tell(n: Notice) {
     match n {
         Notice::Nothing => {}
@@ -73,5 +80,5 @@ fn tell(n: Notice) {
 fn main() {
     let mut text = [0u8; 65_536];
     let n = standard::read(&mut text);
-    tell(write_output(&text[..n], &mut Output).unwrap_or(Notice::Unwritten));
+    tell(answer(&text[..n], &mut Output));
 }

@@ -21,7 +21,7 @@ ghost use Rattle.predicate.specs.Base.{seconds_at, IsLeafAt, ReadsAt, IsJointAt,
 
 use item::Item;
 use kinds::{
-    bit, count_in, decides, is_exists, joint_from, leaf_from, quantifies, range_from, settles,
+    bit, count_in, decides, is_exists, joint_from, leaf_of, quantifies, range_from, settles,
 };
 use layout::{Node, place};
 use node::{Given, Kids, Kind};
@@ -34,14 +34,12 @@ use words::{number, words_at};
 // A node of an unknown kind, of which an accepted sheet has none, is no quantifier, is decided by no child, and comes to 0.
 
 // Whether the node in record k is a quantifier.
+#[tactic(auto, unfolding(words::specs::Record::words_at))]
 fn quantifies_at(s: &[i64], k: usize) -> bool
     requires { 16 + 8 * k + 8 ≤ length s.now }
     ensures { result ≡ is_quantifier (num_of (words_at s.now k).w0) }
 {
-    match kind_at(s, k) {
-        Ok(kind) => quantifies(kind),
-        Err(_) => false,
-    }
+    quantifies(number(s, k, place::NODE_KIND))
 }
 
 // Whether it is "exists".
@@ -56,14 +54,12 @@ fn exists_at(s: &[i64], k: usize) -> bool
 }
 
 // Whether the first child of the node in record k, of value x, already decides it.
+#[tactic(auto, unfolding(words::specs::Record::words_at))]
 fn decides_at(s: &[i64], k: usize, x: i64) -> bool
     requires { 16 + 8 * k + 8 ≤ length s.now }
     ensures { result ≡ (row_at s.now k).decides x }
 {
-    match kind_at(s, k) {
-        Ok(kind) => decides(kind, x),
-        Err(_) => false,
-    }
+    decides(number(s, k, place::NODE_KIND), x)
 }
 
 // The type of the fact that a node names; it is looked up where the kind reads its value. There are `base` facts.
@@ -99,7 +95,7 @@ fn leaf_at(
         Ok(kind) => {
             let w = words_at(s, k);
             let fact = fact_sort(s, base, kind, num(w.w1));
-            leaf_from(kind, w, fact, facts, lists, verdicts, at)
+            leaf_of(kind, w, fact, facts, lists, verdicts, at)
         }
         Err(_) => 0,
     }

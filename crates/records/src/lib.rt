@@ -114,6 +114,25 @@ impl ValueType {
     }
 }
 
+// The same by the number of a type: with a number that is no type's nothing is good.
+pub fn good_bounds(kind: usize, min: i64, max: i64) -> bool
+    ensures { result ≡ (fact_type_of kind).bounds min max }
+{
+    match ValueType::try_from(kind) {
+        Ok(t) => t.good_bounds(min, max),
+        Err(_) => false,
+    }
+}
+
+pub fn good_set(kind: usize, set: usize) -> bool
+    ensures { result ≡ (fact_type_of kind).takes_set set }
+{
+    match ValueType::try_from(kind) {
+        Ok(t) => t.good_set(set),
+        Err(_) => false,
+    }
+}
+
 // The type and range of a fact's values.
 fn fact_item(s: &[i64], k: usize) -> Item
     requires { (16 + 8 * k + 8 ≤ length s.now) × (set_of s.now k ≤ 127) }

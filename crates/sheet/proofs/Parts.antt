@@ -55,12 +55,15 @@ on_any (Err k) p = tt
 pub known_of : {s : List ℤ} {h : Header} {v : Ranges} {t : Trees} → Sized s h → Filled s h h.nodes v t → Known s h (NamedByNodes s h) t
 known_of {s} {h} z f =
     record {
-      room = z.limits.nodes;
-      long = f.name_long;
-      sort = λ j l. ap (λ (x : Item). x.sort) (f.item j l);
-      shut = λ j l. shut_is s h j (λ i m. f.good i (omega arith)) (f.scope j l);
+      rooted =
+          record {
+            room = z.limits.nodes;
+            long = f.name_long;
+            sort = λ j l. ap (λ (x : Item). x.sort) (f.item j l);
+            shut = λ j l. shut_is s h j (λ i m. f.good i (omega arith)) (f.scope j l);
+            names = f.name;
+          };
       top = f.top;
-      names = f.name;
     }
 
 pub own_declared : {s : List ℤ} {h : Header} {m k : ℕ} {t : List Bool} → Declared s h m k t → Declared s h (length t) k t

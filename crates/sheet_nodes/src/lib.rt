@@ -19,7 +19,7 @@ ghost use Rattle.sheet_nodes.specs.Steps.{names_one, first_kid, second_kid, give
 
 use item::Item;
 use layout::{Header, Sheet};
-use node::{Given, Kids, Kind, Named, children, judge_leaf, judge_parent};
+use node::{Given, Kids, Kind, Named};
 use records::{named_fact, no_fact};
 use signed::num;
 use tables::{flag, mark};
@@ -261,17 +261,14 @@ fn judge_single(s: &Sheet, w: Record<i64>, k: Kind) -> Option<Item>
     ensures { result ≡ judged (row_of (kind_number k)) (leaf_given s.now.words.now s.now.header w) }
 {
     let fact = fact_of(s, k, num(w.w1));
-    judge_leaf(
-        k,
-        Given {
-            words: w,
-            facts: s.header.facts,
-            rules: s.header.rules,
-            fact,
-            x: Item::NONE,
-            y: Item::NONE,
-        },
-    )
+    k.judge_leaf(Given {
+        words: w,
+        facts: s.header.facts,
+        rules: s.header.rules,
+        fact,
+        x: Item::NONE,
+        y: Item::NONE,
+    })
 }
 
 // Judges a node whose children have been judged.
@@ -288,17 +285,14 @@ fn judge_joint(
 {
     let (x, y) = trees.kid_items(ranges, c);
     let fact = fact_of(s, k, num(w.w1));
-    judge_parent(
-        k,
-        Given {
-            words: w,
-            facts: s.header.facts,
-            rules: s.header.rules,
-            fact,
-            x: x.align(y),
-            y: y.align(x),
-        },
-    )
+    k.judge_parent(Given {
+        words: w,
+        facts: s.header.facts,
+        rules: s.header.rules,
+        fact,
+        x: x.align(y),
+        y: y.align(x),
+    })
 }
 
 // Judges node n, which has no children; where it is good the arrays take it.
@@ -359,7 +353,7 @@ fn take_node(s: &Sheet, n: usize, ranges: &mut Ranges, trees: &mut Trees) -> boo
     let Ok(k) = Kind::try_from(num(w.w0)) else {
         return false;
     };
-    match children(k, w) {
+    match k.children(w) {
         Kids::Zero => take_leaf(s, n, w, k, ranges, trees),
         c => take_parent(s, n, w, k, c, ranges, trees),
     }

@@ -23,20 +23,22 @@ use Rattle.records.specs.Names.{named_by_rules, named_by_operations}
 use Rattle.records.specs.Operations.{good_mask, good_operation}
 use Rattle.sheet_nodes.specs.declared.Trees.{Trees}
 use Rattle.sheet_nodes.specs.Steps.{with_flags}
-use Rattle.sheet_roots.specs.Roots.{Known, root_test}
-use Rattle.sheet_roots.proofs.Roots.{root_is, name_more, renamed}
+use Rattle.sheet_roots.specs.Roots.{Rooted, Flagged, root_test}
+use Rattle.sheet_roots.proofs.Roots.{root_is, name_more, renamed, flagged_more}
 
-pub record Turn (s : List ℤ) (h : Header) (k sum : ℕ) (t : Trees) : Type 0 where
+pub record Turn (s : List ℤ) (h : Header) (old : Trees) (k sum : ℕ) (t : Trees) : Type 0 where
   pub is : sum ≡ sum_below (effect_count s h) k
-  pub known : Known s h (named_by_operations s h k) t
+  pub rooted : Rooted s h (named_by_operations s h k) t
+  pub flagged : Flagged old t
   pub good : (j : ℕ) → j < k → good_operation s h j ≡ true
 
-pub begin : {s : List ℤ} {h : Header} {t : Trees} → Known s h (named_by_rules s h h.rules) t → Turn s h 0 0 t
+pub begin : {s : List ℤ} {h : Header} {t : Trees} → Rooted s h (named_by_rules s h h.rules) t → Turn s h t 0 0 t
 unfolding named_by_operations
 begin {s} {h} n =
     record {
       is = sym (sum_zero (effect_count s h));
-      known =
+      flagged = refl;
+      rooted =
           renamed n (λ a. sym
           (ap (λ t. named_by_rules s h h.rules a || t) (any_zero (λ j. eqb (operation s h j).w1 a)) ∙ or_false (named_by_rules s h h.rules a)));
       good = λ j l. absurd (omega arith);
@@ -53,7 +55,7 @@ count_of : (s : List ℤ) (h : Header) (k : ℕ) → (operation s h k).w3 ≡ ef
 unfolding record_at
 count_of s h k = refl
 
-module _ {s : List ℤ} {h : Header} {k sum : ℕ} {t : Trees} (w : Turn s h k sum t) (l : k < h.operations) {base : ℕ} {r : Record ℕ} (eb : base ≡ first_operation h) (er : r ≡ record_at s (base + k)) where
+module _ {s : List ℤ} {h : Header} {old : Trees} {k sum : ℕ} {t : Trees} (w : Turn s h old k sum t) (l : k < h.operations) {base : ℕ} {r : Record ℕ} (eb : base ≡ first_operation h) (er : r ≡ record_at s (base + k)) where
   is : r ≡ operation s h k
   is = er ∙ rw eb
 
@@ -71,14 +73,15 @@ module _ {s : List ℤ} {h : Header} {k sum : ℕ} {t : Trees} (w : Turn s h k s
   module _ {rooted m u : Bool} (eo : rooted ≡ root_test h r.w1 t) (em : m ≡ good_mask h r.w0) (eu : u ≡ unused 5 r) where
     test : (m && rooted && eqb r.w2 sum && leb 1 r.w3 && leb 1 r.w4 && leb r.w4 8 && u) ≡ good_operation s h k
     unfolding good_operation
-    test = rw (em, eo ∙ root_is r.w1 w.known, eu, is, w.is)
+    test = rw (em, eo ∙ root_is r.w1 w.rooted, eu, is, w.is)
 
     pub again : {u' : Trees} → (m && rooted && eqb r.w2 sum && leb 1 r.w3 && leb 1 r.w4 && leb r.w4 8 && u) ≡ true
-        → u' ≡ with_flags (marked true r.w1 t.named) t → Turn s h (k + 1) (sum + r.w3) u'
-    again p e =
+        → u' ≡ with_flags (marked true r.w1 t.named) t → Turn s h old (k + 1) (sum + r.w3) u'
+    again {u'} p e =
         record {
           is = rw (sum_more (effect_count s h) k, w.is, is, count_of s h k);
-          known = name_more true (operation s h k).w1 w.known (e ∙ rw is) (name_operation s h k);
+          flagged = flagged_more old t u' _ w.flagged e;
+          rooted = name_more true (operation s h k).w1 w.rooted (e ∙ rw is) (name_operation s h k);
           good = extend_one (λ (j : ℕ). good_operation s h j ≡ true) k w.good (sym test ∙ p);
         }
 

@@ -23,19 +23,23 @@ use Rattle.records.specs.Rules.{stratum, cites_lower, good_rule}
 use Rattle.records.proofs.RuleLaws.{root_ok}
 use Rattle.sheet_nodes.specs.declared.Trees.{Trees}
 use Rattle.sheet_nodes.specs.Steps.{with_flags}
-use Rattle.sheet_roots.specs.Roots.{Known, NamedByNodes, root_test, top_lower}
-use Rattle.sheet_roots.proofs.Roots.{root_is, name_more, renamed}
+use Rattle.sheet_roots.specs.Roots.{Known, Flagged, NamedByNodes, root_test, top_lower}
+use Rattle.sheet_roots.proofs.Roots.{root_is, name_more, renamed, flagged_more, still_known}
 use Rattle.sheet_roots.proofs.Cites.{cites_is, rising}
 
-pub record Turn (s : List ℤ) (h : Header) (k : ℕ) (t : Trees) : Type 0 where
+pub record Turn (s : List ℤ) (h : Header) (old : Trees) (k : ℕ) (t : Trees) : Type 0 where
   pub known : Known s h (named_by_rules s h k) t
+  pub flagged : Flagged old t
   pub good : (j : ℕ) → j < k → good_rule s h j ≡ true
 
-pub begin : {s : List ℤ} {h : Header} {t : Trees} → Known s h (NamedByNodes s h) t → Turn s h 0 t
+pub begin : {s : List ℤ} {h : Header} {t : Trees} → Known s h (NamedByNodes s h) t → Turn s h t 0 t
 unfolding named_by_rules
 begin {s} {h} n =
     record {
-      known = renamed n (λ a. sym (ap (λ t. NamedByNodes s h a || t) (any_zero (λ j. eqb (rule s h j).w1 a)) ∙ or_false (NamedByNodes s h a)));
+      flagged = refl;
+      known =
+          still_known n refl
+          (renamed n.rooted (λ a. sym (ap (λ t. NamedByNodes s h a || t) (any_zero (λ j. eqb (rule s h j).w1 a)) ∙ or_false (NamedByNodes s h a))));
       good = λ j l. absurd (omega arith);
     }
 
@@ -50,14 +54,14 @@ chain : (a b c d e e' : Bool) → (c ≡ true → e ≡ e') → (a && b && c && 
 chain a b true d e e' f = rw (f refl)
 chain a b false d e e' f = rw (and_no (a && b))
 
-module _ {s : List ℤ} {h : Header} {k : ℕ} {t : Trees} (w : Turn s h k t) (l : k < h.rules) {base : ℕ} {r : Record ℕ} {rooted risen u cites : Bool} {top : ℕ}
+module _ {s : List ℤ} {h : Header} {old : Trees} {k : ℕ} {t : Trees} (w : Turn s h old k t) (l : k < h.rules) {base : ℕ} {r : Record ℕ} {rooted risen u cites : Bool} {top : ℕ}
     (eb : base ≡ first_rule h) (er : r ≡ record_at s (base + k)) (eo : rooted ≡ root_test h r.w1 t) (et : top ≡ get_or t.tops r.w1 0)
     (ec : cites ≡ top_lower s h k r.w0 top) (ei : risen ≡ (eqb k 0 || leb (stratum s h (k - 1)) r.w0)) (eu : u ≡ unused 2 r) where
   is : r ≡ rule s h k
   is = er ∙ rw eb
 
   root_of : rooted ≡ good_root s h (rule s h k).w1 (named_by_rules s h k (rule s h k).w1)
-  root_of = eo ∙ root_is r.w1 w.known ∙ rw is
+  root_of = eo ∙ root_is r.w1 w.known.rooted ∙ rw is
 
   inside : good_root s h (rule s h k).w1 (named_by_rules s h k (rule s h k).w1) ≡ true → (rule s h k).w1 < h.nodes
   inside p = (root_ok s h (rule s h k).w1 (named_by_rules s h k (rule s h k).w1) p).exists
@@ -74,10 +78,11 @@ module _ {s : List ℤ} {h : Header} {k : ℕ} {t : Trees} (w : Turn s h k t) (l
       (good_root s h (rule s h k).w1 (named_by_rules s h k (rule s h k).w1)) (unused 2 (rule s h k)) cites (cites_lower s h k (rule s h k).w1)
       cites_of)
 
-  pub again : {u' : Trees} → (leb r.w0 15 && risen && rooted && u && cites) ≡ true → u' ≡ with_flags (marked true r.w1 t.named) t → Turn s h (k + 1) u'
-  again p e =
+  pub again : {u' : Trees} → (leb r.w0 15 && risen && rooted && u && cites) ≡ true → u' ≡ with_flags (marked true r.w1 t.named) t → Turn s h old (k + 1) u'
+  again {u'} p e =
       record {
-        known = name_more true (rule s h k).w1 w.known (e ∙ rw is) (name_rule s h k);
+        flagged = flagged_more old t u' _ w.flagged e;
+        known = still_known w.known (flagged_more t t u' _ refl e) (name_more true (rule s h k).w1 w.known.rooted (e ∙ rw is) (name_rule s h k));
         good = extend_one (λ (j : ℕ). good_rule s h j ≡ true) k w.good (sym test ∙ p);
       }
 

@@ -23,23 +23,25 @@ use Rattle.records.specs.Names.{named_by_operations, named_by_steps}
 use Rattle.records.specs.Flows.{good_step, good_branch_step}
 use Rattle.sheet_nodes.specs.declared.Trees.{Trees}
 use Rattle.sheet_nodes.specs.Steps.{with_flags}
-use Rattle.sheet_roots.specs.Roots.{Known, root_test, kind_test}
-use Rattle.sheet_roots.proofs.Roots.{root_is, name_more, renamed}
+use Rattle.sheet_roots.specs.Roots.{Rooted, Flagged, root_test, kind_test}
+use Rattle.sheet_roots.proofs.Roots.{root_is, name_more, renamed, flagged_more}
 
-pub record Turn (s : List ℤ) (h : Header) (k sum : ℕ) (t : Trees) : Type 0 where
+pub record Turn (s : List ℤ) (h : Header) (old : Trees) (k sum : ℕ) (t : Trees) : Type 0 where
   pub is : sum ≡ sum_below (route_count s h) k
-  pub known : Known s h (named_by_steps s h k) t
+  pub rooted : Rooted s h (named_by_steps s h k) t
+  pub flagged : Flagged old t
   pub good : (j : ℕ) → j < k → good_step s h j ≡ true
 
 abbrev named_by : List ℤ → Header → ℕ → ℕ → Bool
 named_by s h a j = eqb (step s h j).w0 1 && eqb (step s h j).w1 a
 
-pub begin : {s : List ℤ} {h : Header} {t : Trees} → Known s h (named_by_operations s h h.operations) t → Turn s h 0 0 t
+pub begin : {s : List ℤ} {h : Header} {t : Trees} → Rooted s h (named_by_operations s h h.operations) t → Turn s h t 0 0 t
 unfolding named_by_steps
 begin {s} {h} n =
     record {
       is = sym (sum_zero (route_count s h));
-      known =
+      flagged = refl;
+      rooted =
           renamed n (λ a. sym
           (ap (λ t. named_by_operations s h h.operations a || t) (any_zero (named_by s h a)) ∙ or_false (named_by_operations s h h.operations a)));
       good = λ j l. absurd (omega arith);
@@ -55,7 +57,7 @@ count_of : (s : List ℤ) (h : Header) (k : ℕ) → (step s h k).w4 ≡ route_c
 unfolding record_at
 count_of s h k = refl
 
-module _ {s : List ℤ} {h : Header} {k sum : ℕ} {t : Trees} (w : Turn s h k sum t) (l : k < h.steps) {base : ℕ} {r : Record ℕ} (eb : base ≡ first_step h) (er : r ≡ record_at s (base + k)) where
+module _ {s : List ℤ} {h : Header} {old : Trees} {k sum : ℕ} {t : Trees} (w : Turn s h old k sum t) (l : k < h.steps) {base : ℕ} {r : Record ℕ} (eb : base ≡ first_step h) (er : r ≡ record_at s (base + k)) where
   is : r ≡ step s h k
   is = er ∙ rw eb
 
@@ -73,13 +75,14 @@ module _ {s : List ℤ} {h : Header} {k sum : ℕ} {t : Trees} (w : Turn s h k s
   module _ {rooted m u : Bool} (eo : rooted ≡ root_test h r.w1 t) (em : m ≡ kind_test s h r rooted) (eu : u ≡ unused 5 r) where
     test : (m && eqb r.w3 sum && u) ≡ good_step s h k
     unfolding good_step good_branch_step
-    test = rw (em, eo ∙ root_is r.w1 w.known, eu, is, w.is)
+    test = rw (em, eo ∙ root_is r.w1 w.rooted, eu, is, w.is)
 
-    pub again : {u' : Trees} → (m && eqb r.w3 sum && u) ≡ true → u' ≡ with_flags (marked (eqb r.w0 1) r.w1 t.named) t → Turn s h (k + 1) (sum + r.w4) u'
-    again p e =
+    pub again : {u' : Trees} → (m && eqb r.w3 sum && u) ≡ true → u' ≡ with_flags (marked (eqb r.w0 1) r.w1 t.named) t → Turn s h old (k + 1) (sum + r.w4) u'
+    again {u'} p e =
         record {
           is = rw (sum_more (route_count s h) k, w.is, is, count_of s h k);
-          known = name_more (eqb (step s h k).w0 1) (step s h k).w1 w.known (e ∙ rw is) (name_step s h k);
+          flagged = flagged_more old t u' _ w.flagged e;
+          rooted = name_more (eqb (step s h k).w0 1) (step s h k).w1 w.rooted (e ∙ rw is) (name_step s h k);
           good = extend_one (λ (j : ℕ). good_step s h j ≡ true) k w.good (sym test ∙ p);
         }
 

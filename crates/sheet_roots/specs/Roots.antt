@@ -11,16 +11,24 @@ use Rattle.records.specs.Flows.{good_operation_step}
 use Rattle.sheet_nodes.specs.declared.Trees.{Trees}
 use Rattle.sheet_nodes.specs.Scopes.{shut}
 use Rattle.sheet_nodes.specs.Arrays.{top_of}
+use Rattle.sheet_nodes.specs.Steps.{with_flags}
 
--- what the arrays say of the nodes: their types, which trees cite no element outside a quantifier over its list, the greatest rules that their
--- trees cite, and which of them are named
-pub record Known (s : List ℤ) (h : Header) (f : ℕ → Bool) (t : Trees) : Type 0 where
+-- what the arrays say of the nodes: their types, which trees cite no element outside a quantifier over its list, and which of them are named
+pub record Rooted (s : List ℤ) (h : Header) (f : ℕ → Bool) (t : Trees) : Type 0 where
   pub room : h.nodes ≤ 1024
   pub long : length t.named ≡ 1024
   pub sort : (j : ℕ) → j < h.nodes → get_or t.sorts j 0 ≡ (item_of s h j).sort
   pub shut : (j : ℕ) → j < h.nodes → shut (get_or t.scopes j 0) ≡ closed s h j
-  pub top : (j : ℕ) → j < h.nodes → get_or t.tops j 0 ≡ top_of s h j
   pub names : (a : ℕ) → a < 1024 → get_or t.named a false ≡ f a
+
+-- and the greatest rules that their trees cite
+pub record Known (s : List ℤ) (h : Header) (f : ℕ → Bool) (t : Trees) : Type 0 where
+  pub rooted : Rooted s h f t
+  pub top : (j : ℕ) → j < h.nodes → get_or t.tops j 0 ≡ top_of s h j
+
+-- nothing but flags was changed
+abbrev pub Flagged : Trees → Trees → Type 0
+Flagged old t = t ≡ with_flags t.named old
 
 abbrev pub NamedByNodes : List ℤ → Header → ℕ → Bool
 NamedByNodes s h a = named_by_nodes s h h.nodes a

@@ -6,7 +6,7 @@ ghost use Rattle.layout.specs.Groups.{good_groups};
 ghost use Rattle.records.specs.Operations.{good_operation};
 ghost use Rattle.records.specs.Names.{named_by_rules, named_by_operations};
 ghost use Rattle.records.specs.Scans.{scanned};
-ghost use Rattle.sheet_roots.specs.Roots.{Known};
+ghost use Rattle.sheet_roots.specs.Roots.{Rooted, Flagged};
 
 use crate::root;
 use layout::Sheet;
@@ -15,9 +15,10 @@ use sheet_nodes::Trees;
 use words::record_at;
 
 pub fn check_operations(s: &Sheet, trees: &mut Trees) -> Result<(), usize>
-    requires { (good_groups s.now.words.now s.now.header ≡ true) × Known s.now.words.now s.now.header (named_by_rules s.now.words.now s.now.header s.now.header.rules) trees.old }
+    requires { (good_groups s.now.words.now s.now.header ≡ true) × Rooted s.now.words.now s.now.header (named_by_rules s.now.words.now s.now.header s.now.header.rules) trees.old }
     ensures value { result ≡ scanned (first_operation s.now.header) (good_operation s.now.words.now s.now.header) s.now.header.operations }
-    ensures known { OnOk result (Known s.now.words.now s.now.header (named_by_operations s.now.words.now s.now.header s.now.header.operations) trees.new) }
+    ensures rooted { OnOk result (Rooted s.now.words.now s.now.header (named_by_operations s.now.words.now s.now.header s.now.header.operations) trees.new) }
+    ensures flagged { Flagged trees.old trees.new }
 {
     let base = s.header.first_operation();
     let mut sum = 0;

@@ -5,7 +5,7 @@ ghost use Rattle.layout.specs.Sized.{Sized};
 ghost use Rattle.records.specs.Rules.{good_rule, stratum};
 ghost use Rattle.records.specs.Names.{named_by_rules};
 ghost use Rattle.records.specs.Scans.{scanned};
-ghost use Rattle.sheet_roots.specs.Roots.{Known, top_lower, NamedByNodes};
+ghost use Rattle.sheet_roots.specs.Roots.{Known, Flagged, top_lower, NamedByNodes};
 
 use crate::root;
 use layout::{Rule, Sheet};
@@ -46,6 +46,7 @@ pub fn check_rules(s: &Sheet, trees: &mut Trees) -> Result<(), usize>
     requires { Known s.now.words.now s.now.header (NamedByNodes s.now.words.now s.now.header) trees.old }
     ensures value { result ≡ scanned (first_rule s.now.header) (good_rule s.now.words.now s.now.header) s.now.header.rules }
     ensures known { OnOk result (Known s.now.words.now s.now.header (named_by_rules s.now.words.now s.now.header s.now.header.rules) trees.new) }
+    ensures flagged { Flagged trees.old trees.new }
 {
     let base = s.header.first_rule();
     for k in 0..s.header.rules {

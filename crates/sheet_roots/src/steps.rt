@@ -7,7 +7,7 @@ ghost use Rattle.records.specs.Operations.{good_operation};
 ghost use Rattle.records.specs.Names.{named_by_operations};
 ghost use Rattle.records.specs.Flows.{good_step};
 ghost use Rattle.records.specs.Scans.{scanned};
-ghost use Rattle.sheet_roots.specs.Roots.{Known, kind_test};
+ghost use Rattle.sheet_roots.specs.Roots.{Rooted, Flagged, kind_test};
 
 use crate::root;
 use layout::Sheet;
@@ -28,8 +28,9 @@ fn good_kind(s: &Sheet, r: Record<usize>, rooted: bool) -> bool
 }
 
 pub fn check_steps(s: &Sheet, trees: &mut Trees) -> Result<(), usize>
-    requires { (good_groups s.now.words.now s.now.header ≡ true) × Known s.now.words.now s.now.header (named_by_operations s.now.words.now s.now.header s.now.header.operations) trees.old × ((k : ℕ) → k < s.now.header.operations → good_operation s.now.words.now s.now.header k ≡ true) }
-    ensures { result ≡ scanned (first_step s.now.header) (good_step s.now.words.now s.now.header) s.now.header.steps }
+    requires { (good_groups s.now.words.now s.now.header ≡ true) × Rooted s.now.words.now s.now.header (named_by_operations s.now.words.now s.now.header s.now.header.operations) trees.old × ((k : ℕ) → k < s.now.header.operations → good_operation s.now.words.now s.now.header k ≡ true) }
+    ensures value { result ≡ scanned (first_step s.now.header) (good_step s.now.words.now s.now.header) s.now.header.steps }
+    ensures flagged { Flagged trees.old trees.new }
 {
     let base = s.header.first_step();
     let mut sum = 0;

@@ -27,6 +27,19 @@ holds_unknown (suc (suc (suc (suc zero)))) x y h = absurd (omega arith)
 holds_unknown (suc (suc (suc (suc (suc zero))))) x y h = absurd (omega arith)
 holds_unknown (suc (suc (suc (suc (suc (suc op)))))) x y h = refl
 
+and_false : (t : Bool) → (t && false) ≡ false
+and_false true = refl
+and_false false = refl
+
+pub can_hold_unknown : (op : ℕ) (l₁ h₁ l₂ h₂ : ℤ) → 5 < op → can_hold op l₁ h₁ l₂ h₂ ≡ false
+unfolding can_hold some_pair
+can_hold_unknown op l₁ h₁ l₂ h₂ h =
+    rw (holds_unknown op l₁ h₂ h, holds_unknown op h₁ l₂ h, holds_unknown op (max_z l₁ l₂) (max_z l₁ l₂) h) (rw and_false)
+
+pub can_fail_unknown : (op : ℕ) (l₁ h₁ l₂ h₂ : ℤ) → 5 < op → can_fail op l₁ h₁ l₂ h₂ ≡ true
+unfolding can_fail some_pair
+can_fail_unknown op l₁ h₁ l₂ h₂ h = rw (holds_unknown op l₁ h₂ h)
+
 -- ---- the opposite of a comparison
 
 pub not_not : (t : Bool) → t ≡ not (not t)

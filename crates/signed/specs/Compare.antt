@@ -1,10 +1,7 @@
 -- The six comparisons of 01, and what a comparison can come to over two ranges of values. Assumes nothing.
-use Rattle.std.specs.Prelude.{◌≡◌, Bool, false, not, ◌&&◌, ◌||◌, ℕ, zero, suc, ◌<◌, ℤ, Result, MatchResult}
+use Rattle.std.specs.Prelude.{Bool, false, not, ◌&&◌, ◌||◌, ℕ, zero, suc, ℤ}
 use Rattle.std.specs.Int.Signed.{lt_z, le_z}
 use Rattle.signed.specs.Words.{eq_z, max_z}
-use Rattle.signed.specs.declared.Comparison.{Comparison}
-use Rattle.signed.specs.declared.Comparison.TheVariants.{Equal, Unequal, Less, AtMost, Greater, AtLeast}
-use Rattle.signed.specs.declared.UnknownComparison.{UnknownComparison}
 
 -- 01: operator 0 =, 1 ≠, 2 <, 3 ≤, 4 >, 5 ≥; there is no other
 unfoldable pub holds : ℕ → ℤ → ℤ → Bool
@@ -28,16 +25,3 @@ can_hold op l₁ h₁ l₂ h₂ = some_pair (holds op) l₁ h₁ l₂ h₂
 -- and 0 if some pair does not
 unfoldable pub can_fail : ℕ → ℤ → ℤ → ℤ → ℤ → Bool
 can_fail op l₁ h₁ l₂ h₂ = some_pair (λ x y. not (holds op x y)) l₁ h₁ l₂ h₂
-
--- the number of a comparison, as the code has it
-abbrev pub operator_number : Comparison → ℕ
-operator_number Equal = 0
-operator_number Unequal = 1
-operator_number Less = 2
-operator_number AtMost = 3
-operator_number Greater = 4
-operator_number AtLeast = 5
-
--- the result is the comparison of number n, or there is none
-abbrev pub Decodes : ℕ → Result Comparison UnknownComparison → Type 0
-Decodes n r = MatchResult r (λ op. operator_number op ≡ n) (λ e. (e.0 ≡ n) × (5 < n))

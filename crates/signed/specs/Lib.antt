@@ -1,3 +1,4 @@
 pub mod Words
 pub mod Compare
+pub mod Operators
 pub mod Inner

@@ -5,7 +5,8 @@
 ghost use Rattle.std.specs.Prelude.{◌≡◌, true, not, ℤ, pos, ◌+ℤ◌, ◌-ℤ◌, ◌*ℤ◌, ◌<◌, ◌^◌};
 ghost use Rattle.std.specs.Int.Signed.{lt_z, le_z};
 ghost use Rattle.signed.specs.Words.{eq_z, within, bounded, num};
-ghost use Rattle.signed.specs.Compare.{holds, can_hold, can_fail, operator_number, Decodes};
+ghost use Rattle.signed.specs.Compare.{holds, can_hold, can_fail};
+ghost use Rattle.signed.specs.Operators.{operator_number, Decodes};
 
 // The tests, `within`, `to_word` and the arithmetic stay functions: what an operator gives is known through a word's 64 bits, and these say it of
 // the integers, which is what callers' proofs go by.
@@ -151,5 +152,33 @@ impl Comparison {
         ensures { result ≡ can_fail (operator_number self) l1 h1 l2 h2 }
     {
         self.opposite().can_hold(l1, h1, l2, h2)
+    }
+}
+
+// The same by the number of a comparison: with a number that is no comparison's nothing holds.
+pub fn holds(op: usize, a: i64, b: i64) -> bool
+    ensures { result ≡ holds op a b }
+{
+    match Comparison::try_from(op) {
+        Ok(op) => op.holds(a, b),
+        Err(_) => false,
+    }
+}
+
+pub fn can_hold(op: usize, l1: i64, h1: i64, l2: i64, h2: i64) -> bool
+    ensures { result ≡ can_hold op l1 h1 l2 h2 }
+{
+    match Comparison::try_from(op) {
+        Ok(op) => op.can_hold(l1, h1, l2, h2),
+        Err(_) => false,
+    }
+}
+
+pub fn can_fail(op: usize, l1: i64, h1: i64, l2: i64, h2: i64) -> bool
+    ensures { result ≡ can_fail op l1 h1 l2 h2 }
+{
+    match Comparison::try_from(op) {
+        Ok(op) => op.can_fail(l1, h1, l2, h2),
+        Err(_) => true,
     }
 }

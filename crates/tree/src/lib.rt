@@ -27,14 +27,12 @@ pub fn kind_at(s: &[i64], k: usize) -> Result<Kind, UnknownKind>
 
 // The children of the node in record k, of which one of an unknown kind has none. It reads the record itself, so that no call of a recursion
 // over a tree keeps one.
+#[tactic(auto, unfolding(words::specs::Record::words_at))]
 pub fn kids_at(s: &[i64], k: usize) -> Kids
     requires { 16 + 8 * k + 8 ≤ length s.now }
     ensures { kids result ≡ children_at s.now k }
 {
-    match kind_at(s, k) {
-        Ok(kind) => children(kind, words_at(s, k)),
-        Err(_) => Kids::Zero,
-    }
+    children(number(s, k, place::NODE_KIND), words_at(s, k))
 }
 
 // S7: the number of nodes in the tree under a node, itself counted. Each node is named at most once, so there are at most n + 1.

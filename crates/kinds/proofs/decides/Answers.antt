@@ -1,7 +1,8 @@
--- `kinds::decides` meets its contract: only "and" and "or" are decided. Assumes nothing.
-use mathlib.Core.Path.{sym}
-use Rattle.kinds.proofs.KindLaws.{undecided}
+-- `kinds::decides` meets its contract: a kind past 17 is decided by no child. Assumes nothing.
+use mathlib.Core.Path.{ap, sym}
+use Rattle.node.specs.Rows.{Row}
+use Rattle.node.proofs.Judged.{row_past}
 use Rattle.kinds.proofs.decides.Goals as goal
 
-pub returns-in_default : goal.returns-in_default
-returns-in_default c = sym (undecided c.args.k c.in_default.not-And c.in_default.not-Or c.args.x)
+pub returns-in-Err : goal.returns-in-Err
+returns-in-Err c = ap (λ (r : Row). r.decides c.args.x) (sym (row_past _ c.in-Err.ensures.1))

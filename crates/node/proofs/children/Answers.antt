@@ -1,7 +1,8 @@
--- `node::children` meets its contract. Assumes nothing.
-use Rattle.node.proofs.OneKind.{childless}
+-- `node::children` meets its contract: a kind past 17 has none. Assumes nothing.
+use mathlib.Core.Path.{ap, sym}
+use Rattle.node.specs.Rows.{Row}
+use Rattle.node.proofs.Judged.{row_past}
 use Rattle.node.proofs.children.Goals as goal
 
-pub returns-in_default : goal.returns-in_default
-returns-in_default c = childless _ _ c.in_default.not-Sum c.in_default.not-Difference c.in_default.not-Product c.in_default.not-Comparison
-    c.in_default.not-And c.in_default.not-Or c.in_default.not-Not c.in_default.not-ForAll c.in_default.not-Exists
+pub returns-in-Err : goal.returns-in-Err
+returns-in-Err c = ap (λ (r : Row). r.children c.args.w) (sym (row_past _ c.in-Err.ensures.1))

@@ -1,13 +1,8 @@
--- `node::judge_parent` meets its contract. Assumes nothing.
-use mathlib.Core.Path.{◌∙◌}
-use Rattle.node.proofs.Judged.{kids_small, parent_judged, parent_bad}
+-- `node::judge_parent` meets its contract: a kind past 17 has no children. Assumes nothing.
+use mathlib.Core.Path.{ap}
+use Rattle.node.specs.Rows.{Row}
+use Rattle.node.proofs.Judged.{row_past}
 use Rattle.node.proofs.judge_parent.Goals as goal
 
-pub judge_by_kind-requires : goal.judge_by_kind-requires
-judge_by_kind-requires c = (kids_small _ c.small.ensures c.small-2.ensures c.if-small.true, c.requires)
-
-pub returns-then-small : goal.returns-then-small
-returns-then-small c = c.judge_by_kind.ensures ∙ parent_judged _ c.small.ensures c.small-2.ensures _ c.if-small.true
-
-pub returns-else-small : goal.returns-else-small
-returns-else-small c = parent_bad _ c.small.ensures c.small-2.ensures _ c.if-small.false
+pub returns-in-Err : goal.returns-in-Err
+returns-in-Err c = absurd (c.requires (ap (λ (r : Row). r.children c.args.g.words) (row_past _ c.in-Err.ensures.1)))

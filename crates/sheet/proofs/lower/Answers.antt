@@ -8,5 +8,8 @@ check_routes-requires c = record {
   sized = c.args.s.now.sized;
   groups = c.requires.0;
   flows = scan_good _ _ _ (sym c.in_ok-check_flows.ensures);
-  steps = scan_good _ _ _ (sym c.in_ok-check_steps.ensures);
+  steps = scan_good _ _ _ (sym c.in_ok-check_steps.ensures.value);
 }
+
+pub check_steps-requires : goal.check_steps-requires
+check_steps-requires c = (c.requires.0, c.requires.1.known.rooted, c.requires.1.operations)

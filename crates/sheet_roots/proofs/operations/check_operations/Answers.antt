@@ -4,7 +4,7 @@ use native.Mathlib.Omega.{arith}
 use Rattle.records.specs.Operations.{good_operation}
 use Rattle.records.specs.Names.{named_by_operations}
 use Rattle.records.proofs.Scans.{stopped, ended}
-use Rattle.sheet_roots.specs.Roots.{Known}
+use Rattle.sheet_roots.specs.Roots.{Rooted}
 use Rattle.sheet_roots.proofs.OperationScan.{begin, fits, again, stop}
 use Rattle.sheet_roots.proofs.operations.check_operations.Goals as goal
 
@@ -31,6 +31,7 @@ loop-k-preserved c = again c.loop-k.invariant c.loop-k-test.true c.first_operati
 pub returns : goal.returns
 returns c = record {
   value = ended _ (good_operation c.args.s.now.words.now c.args.s.now.header) _ (λ j l. c.loop-k.invariant.good j (omega arith));
-  known = subst (λ (n : ℕ). Known c.args.s.now.words.now c.args.s.now.header (named_by_operations c.args.s.now.words.now c.args.s.now.header n) c.loop-k.trees) (omega arith)
-      c.loop-k.invariant.known;
+  rooted = subst (λ (n : ℕ). Rooted c.args.s.now.words.now c.args.s.now.header (named_by_operations c.args.s.now.words.now c.args.s.now.header n) c.loop-k.trees) (omega arith)
+      c.loop-k.invariant.rooted;
+  flagged = c.loop-k.invariant.flagged;
 }

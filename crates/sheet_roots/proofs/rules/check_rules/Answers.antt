@@ -27,4 +27,5 @@ returns c = record {
   value = ended _ (good_rule c.args.s.now.words.now c.args.s.now.header) _ (λ j l. c.loop-k.invariant.good j (omega arith));
   known = subst (λ (n : ℕ). Known c.args.s.now.words.now c.args.s.now.header (named_by_rules c.args.s.now.words.now c.args.s.now.header n) c.loop-k.trees) (omega arith)
       c.loop-k.invariant.known;
+  flagged = c.loop-k.invariant.flagged;
 }

@@ -3,4 +3,4 @@ use Rattle.sheet_roots.proofs.RuleScan.{Turn}
 use Rattle.sheet_roots.proofs.rules.check_rules.Given as goal
 
 abbrev pub invariant-loop-k : goal.invariant-loop-k
-invariant-loop-k l = Turn l.s.words.now l.s.header l.k l.trees
+invariant-loop-k l = Turn l.s.words.now l.s.header l.initial.trees l.k l.trees

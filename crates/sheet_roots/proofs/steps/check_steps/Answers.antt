@@ -10,8 +10,8 @@ loop-k-init c = begin c.requires.1
 pub good_kind-requires : goal.good_kind-requires
 good_kind-requires c = c.requires.2
 
-pub returns-then-not-good : goal.returns-then-not-good
-returns-then-not-good c = stopped _ (good_step c.args.s.now.words.now c.args.s.now.header) _ c.loop-k.k
+pub returns-then-not-good-clause-value : goal.returns-then-not-good-clause-value
+returns-then-not-good-clause-value c = stopped _ (good_step c.args.s.now.words.now c.args.s.now.header) _ c.loop-k.k
     (omega (arith, c.first_step-base.ensures)) c.loop-k-test.true c.loop-k.invariant.good
     (stop c.loop-k.invariant c.loop-k-test.true c.first_step-base.ensures c.record_at-r.ensures c.root-rooted.ensures
     c.good_kind.ensures c.unused.ensures c.if-not-good.true)
@@ -28,4 +28,7 @@ loop-k-preserved c = again c.loop-k.invariant c.loop-k-test.true c.first_step-ba
     c.root-rooted.ensures c.good_kind.ensures c.unused.ensures c.if-not-good.false c.mark.ensures
 
 pub returns : goal.returns
-returns c = ended _ (good_step c.args.s.now.words.now c.args.s.now.header) _ (λ j l. c.loop-k.invariant.good j (omega arith))
+returns c = record {
+  value = ended _ (good_step c.args.s.now.words.now c.args.s.now.header) _ (λ j l. c.loop-k.invariant.good j (omega arith));
+  flagged = c.loop-k.invariant.flagged;
+}

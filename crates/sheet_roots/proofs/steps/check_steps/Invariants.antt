@@ -3,4 +3,4 @@ use Rattle.sheet_roots.proofs.StepScan.{Turn}
 use Rattle.sheet_roots.proofs.steps.check_steps.Given as goal
 
 abbrev pub invariant-loop-k : goal.invariant-loop-k
-invariant-loop-k l = Turn l.s.words.now l.s.header l.k l.sum l.trees
+invariant-loop-k l = Turn l.s.words.now l.s.header l.initial.trees l.k l.sum l.trees
