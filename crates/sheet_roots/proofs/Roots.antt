@@ -1,6 +1,6 @@
 -- Roots and the flags of named nodes.
 -- Assumes nothing.
-use mathlib.Core.Path.{◌≡◌, ◌∙◌, ap}
+use mathlib.Core.Path.{◌≡◌, ◌∙◌, ap, refl}
 use mathlib.Core.Bool.{Bool, false, not, ◌&&◌, ◌||◌}
 use mathlib.Core.List.{List}
 use Prim.Native.Nat.{ℕ, ◌<◌}
@@ -32,9 +32,9 @@ root_is {s} {h} {f} {t} a n = go (dec_lt a h.nodes)
     go (no x) = rw (le-ltb a h.nodes (omega arith))
 
 -- one more named node
-pub name_more : {s : List ℤ} {h : Header} {f g : ℕ → Bool} {t u : Trees} (on : Bool) (i : ℕ) → Rooted s h f t → u ≡ with_flags (marked on i t.named) t
+pub root_more : {s : List ℤ} {h : Header} {f g : ℕ → Bool} {t u : Trees} (on : Bool) (i : ℕ) → Rooted s h f t → u ≡ with_flags (marked on i t.named) t
     → ((a : ℕ) → (f a || (on && eqb i a)) ≡ g a) → Rooted s h g u
-name_more {f = f} {g} {t} on i n e q =
+root_more {f = f} {g} {t} on i n e q =
     rw e (record {
       room = n.room;
       long = length_marked on i t.named ∙ n.long;
@@ -44,8 +44,8 @@ name_more {f = f} {g} {t} on i n e q =
     })
 
 -- the same flags under another name
-pub renamed : {s : List ℤ} {h : Header} {f g : ℕ → Bool} {t : Trees} → Rooted s h f t → ((a : ℕ) → f a ≡ g a) → Rooted s h g t
-renamed n q = record { room = n.room; long = n.long; sort = n.sort; shut = n.shut; names = λ a l. n.names a l ∙ q a }
+pub root_renamed : {s : List ℤ} {h : Header} {f g : ℕ → Bool} {t : Trees} → Rooted s h f t → ((a : ℕ) → f a ≡ g a) → Rooted s h g t
+root_renamed n q = record { room = n.room; long = n.long; sort = n.sort; shut = n.shut; names = λ a l. n.names a l ∙ q a }
 
 -- one more flag
 pub flagged_more : (old t u : Trees) (n : List Bool) → Flagged old t → u ≡ with_flags n t → Flagged old u
@@ -54,3 +54,11 @@ flagged_more old t u n k e = rw e (ap (with_flags n) k)
 -- where nothing but flags was changed, the greatest rules are known as before
 pub still_known : {s : List ℤ} {h : Header} {f g : ℕ → Bool} {old t : Trees} → Known s h f old → Flagged old t → Rooted s h g t → Known s h g t
 still_known n k r = record { rooted = r; top = λ j l. rw k (n.top j l) }
+
+-- so with one more named node, and with the same flags under another name
+pub name_more : {s : List ℤ} {h : Header} {f g : ℕ → Bool} {t u : Trees} (on : Bool) (i : ℕ) → Known s h f t → u ≡ with_flags (marked on i t.named) t
+    → ((a : ℕ) → (f a || (on && eqb i a)) ≡ g a) → Known s h g u
+name_more {t = t} {u} on i n e q = still_known n (flagged_more t t u _ refl e) (root_more on i n.rooted e q)
+
+pub renamed : {s : List ℤ} {h : Header} {f g : ℕ → Bool} {t : Trees} → Known s h f t → ((a : ℕ) → f a ≡ g a) → Known s h g t
+renamed n q = still_known n refl (root_renamed n.rooted q)

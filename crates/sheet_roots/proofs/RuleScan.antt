@@ -24,7 +24,7 @@ use Rattle.records.proofs.RuleLaws.{root_ok}
 use Rattle.sheet_nodes.specs.declared.Trees.{Trees}
 use Rattle.sheet_nodes.specs.Steps.{with_flags}
 use Rattle.sheet_roots.specs.Roots.{Known, Flagged, NamedByNodes, root_test, top_lower}
-use Rattle.sheet_roots.proofs.Roots.{root_is, name_more, renamed, flagged_more, still_known}
+use Rattle.sheet_roots.proofs.Roots.{root_is, name_more, renamed, flagged_more}
 use Rattle.sheet_roots.proofs.Cites.{cites_is, rising}
 
 pub record Turn (s : List ℤ) (h : Header) (old : Trees) (k : ℕ) (t : Trees) : Type 0 where
@@ -37,9 +37,7 @@ unfolding named_by_rules
 begin {s} {h} n =
     record {
       flagged = refl;
-      known =
-          still_known n refl
-          (renamed n.rooted (λ a. sym (ap (λ t. NamedByNodes s h a || t) (any_zero (λ j. eqb (rule s h j).w1 a)) ∙ or_false (NamedByNodes s h a))));
+      known = renamed n (λ a. sym (ap (λ t. NamedByNodes s h a || t) (any_zero (λ j. eqb (rule s h j).w1 a)) ∙ or_false (NamedByNodes s h a)));
       good = λ j l. absurd (omega arith);
     }
 
@@ -82,7 +80,7 @@ module _ {s : List ℤ} {h : Header} {old : Trees} {k : ℕ} {t : Trees} (w : Tu
   again {u'} p e =
       record {
         flagged = flagged_more old t u' _ w.flagged e;
-        known = still_known w.known (flagged_more t t u' _ refl e) (name_more true (rule s h k).w1 w.known.rooted (e ∙ rw is) (name_rule s h k));
+        known = name_more true (rule s h k).w1 w.known (e ∙ rw is) (name_rule s h k);
         good = extend_one (λ (j : ℕ). good_rule s h j ≡ true) k w.good (sym test ∙ p);
       }
 

@@ -24,7 +24,7 @@ use Rattle.records.specs.Flows.{good_step, good_branch_step}
 use Rattle.sheet_nodes.specs.declared.Trees.{Trees}
 use Rattle.sheet_nodes.specs.Steps.{with_flags}
 use Rattle.sheet_roots.specs.Roots.{Rooted, Flagged, root_test, kind_test}
-use Rattle.sheet_roots.proofs.Roots.{root_is, name_more, renamed, flagged_more}
+use Rattle.sheet_roots.proofs.Roots.{root_is, root_more, root_renamed, flagged_more}
 
 pub record Turn (s : List ℤ) (h : Header) (old : Trees) (k sum : ℕ) (t : Trees) : Type 0 where
   pub is : sum ≡ sum_below (route_count s h) k
@@ -42,7 +42,7 @@ begin {s} {h} n =
       is = sym (sum_zero (route_count s h));
       flagged = refl;
       rooted =
-          renamed n (λ a. sym
+          root_renamed n (λ a. sym
           (ap (λ t. named_by_operations s h h.operations a || t) (any_zero (named_by s h a)) ∙ or_false (named_by_operations s h h.operations a)));
       good = λ j l. absurd (omega arith);
     }
@@ -82,7 +82,7 @@ module _ {s : List ℤ} {h : Header} {old : Trees} {k sum : ℕ} {t : Trees} (w 
         record {
           is = rw (sum_more (route_count s h) k, w.is, is, count_of s h k);
           flagged = flagged_more old t u' _ w.flagged e;
-          rooted = name_more (eqb (step s h k).w0 1) (step s h k).w1 w.rooted (e ∙ rw is) (name_step s h k);
+          rooted = root_more (eqb (step s h k).w0 1) (step s h k).w1 w.rooted (e ∙ rw is) (name_step s h k);
           good = extend_one (λ (j : ℕ). good_step s h j ≡ true) k w.good (sym test ∙ p);
         }
 
